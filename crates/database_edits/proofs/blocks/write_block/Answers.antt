@@ -3,12 +3,13 @@ use Rattle.std.proofs.Common.{refl, arith}
 use Rattle.heap_model.specs.StoreWords.{next_modification}
 use Rattle.heap_model.specs.Leaving.{database_here}
 use Rattle.database_edits.proofs.Kept.{writes_then}
-use Rattle.database_edits.proofs.Databases.{header_inside}
+use Rattle.database_edits.proofs.HeadersHere.{room_here}
 use Rattle.database_edits.proofs.InfoBlocks.{block_fits, block_written}
 use Rattle.database_edits.proofs.blocks.write_block.Goals as goal
 
-pub put_info_block-requires-clause-inside : goal.put_info_block-requires-clause-inside
-put_info_block-requires-clause-inside c = header_inside c.args.heap.now.bytes c.args.opened.db.0 c.requires.opened.spells
+pub put_info_block-requires : goal.put_info_block-requires
+put_info_block-requires c =
+    record { header = room_here c.args.heap.now.bytes c.args.opened c.requires.opened }
 
 pub returns-clause-written : goal.returns-clause-written
 returns-clause-written c =

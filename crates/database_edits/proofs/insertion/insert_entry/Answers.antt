@@ -22,6 +22,20 @@ returns-in_err-grow-clause-no_room c =
     (subst (λ (resources : Bool). HasNoRoomForEntry c.args.heap.now.bytes c.args.opened.db.0 resources) (sym c.requires.kind)
     (short_of c.args.heap.now.bytes c.args.opened.db.0 c.entry_offset.result c.args.opened.entry_count c.is_resource-resources.result c.requires.opened.spells (c.is_resource-resources.ensures ∙ c.requires.kind) c.requires.opened.count c.entry_offset.ensures c.in_err-grow.ensures.no_room))
 
+pub put_entry_count-requires : goal.put_entry_count-requires
+put_entry_count-requires c =
+    let d : Database ℕ = database_here c.args.heap.now.bytes c.args.opened.db.0 in
+    let entry : Entry ℕ = entry_of c.args.entry in
+    let has = inserted_kept c.args.heap.now.bytes c.grow.new.heap.bytes c.slide_entries.new.heap.bytes c.put_entry.new.heap.bytes c.args.opened.db.0 c.args.index c.entry_offset.result c.args.opened.entry_count c.is_resource-resources.result entry d
+    (heading_spelled c.args.heap.now.bytes c.args.opened.db.0 c.requires.opened.spells) c.entry_offset.ensures c.in_ok-grow.ensures.grows c.slide_entries.ensures.slides c.put_entry.ensures.writes in
+    record {
+      header = record {
+        stands = c.put_entry.ensures.stands;
+        managers = c.put_entry.ensures.writes.managers;
+        inside = has.inside;
+      };
+    }
+
 pub returns-clause-inserted : goal.returns-clause-inserted
 returns-clause-inserted c =
     let d : Database ℕ = database_here c.args.heap.now.bytes c.args.opened.db.0 in

@@ -19,11 +19,16 @@ slide_entries-requires-clause-to_inside c =
     let inside = c.requires.inside in
     inside_body c.args.heap.now.bytes c.args.opened.db.0 (c.args.index + (c.args.opened.entry_count - (c.args.index + 1))) c.heading_here-heading.result.resources c.requires.opened.spells c.heading_here-heading.ensures.kind (omega (arith, count, inside))
 
-pub put_entry_count-requires-clause-inside : goal.put_entry_count-requires-clause-inside
-put_entry_count-requires-clause-inside c =
+pub put_entry_count-requires : goal.put_entry_count-requires
+put_entry_count-requires c =
     let has = slid_kept c.args.heap.now.bytes c.slide_entries.new.heap.bytes c.args.opened.db.0 c.args.index c.args.opened.entry_count c.heading_here-heading.result.resources c.requires.opened.spells c.slide_entries.ensures.slides in
-    let inside = has.inside in
-    inside
+    record {
+      header = record {
+        stands = c.slide_entries.ensures.stands;
+        managers = c.slide_entries.ensures.slides.managers;
+        inside = has.inside;
+      };
+    }
 
 pub shrink-requires-clause-managers : goal.shrink-requires-clause-managers
 shrink-requires-clause-managers c =
