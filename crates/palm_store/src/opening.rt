@@ -1,13 +1,13 @@
 //! The first checks of the calls on entries.
 
-ghost use Rattle.std.specs.Prelude.{◌≡◌, ◌<◌, [], length, OnOk, IfOk, IfErr};
+ghost use Rattle.std.specs.Prelude.{◌≡◌, [], length, OnOk, IfOk, IfErr};
 ghost use Rattle.heap_model.specs.Database.{has_resources};
 ghost use Rattle.heap_model.specs.Store.{Accepted};
 ghost use Rattle.heap_model.specs.Refusals.{NoneHolds, FirstBrings};
 ghost use Rattle.palm_store.specs.Databases.{HasNumber, HasDatabase};
 ghost use Rattle.palm_store.specs.Opened.{IsOpened};
 ghost use Rattle.palm_store.specs.EntryCalls.{entries_of_image, resources_of_image};
-ghost use Rattle.palm_store.specs.Checks.{are_resources, wrong_kind, attribute_checks, opening_checks, finding_checks, IsTold, IsOfKind};
+ghost use Rattle.palm_store.specs.Checks.{are_resources, wrong_kind, attribute_checks, opening_checks, finding_checks, IsFoundAt, IsTold, IsOfKind};
 
 use crate::entries::InDatabase;
 use crate::store::Store;
@@ -140,11 +140,7 @@ pub fn find_entry(
     access: Access,
 ) -> Result<InDatabase<Entry>, Refusal>
     ensures accepted { Accepted store.now.bytes }
-    ensures known { OnOk result (HasNumber store.now.bytes db.0) }
-    ensures kind { OnOk result (resources_of_image store.now.bytes db ≡ are_resources kind) }
-    ensures inside { OnOk result (index < length (entries_of_image store.now.bytes db)) }
-    ensures opened { IfOk result (λ found. IsOpened store.now.bytes found.opened) }
-    ensures db { IfOk result (λ found. found.opened.db ≡ db) }
+    ensures found { IfOk result (λ found. IsFoundAt store.now.bytes db index kind found.opened) }
     ensures is { IfOk result (λ found. IsTold store.now.bytes db index found.item) }
     ensures of_kind { IfOk result (λ found. IsOfKind kind found.item) }
     ensures passes { OnOk result

@@ -1,16 +1,15 @@
 //! Records, by their indexes.
 
-ghost use Rattle.std.specs.Prelude.{◌≡◌, ◌<◌, ◌↔◌, false, Some, length, IsTrue, IsSomeAnd, IfSome, OnOk, IfOk, IfErr};
+ghost use Rattle.std.specs.Prelude.{◌≡◌, ◌<◌, ◌↔◌, false, Some, IsTrue, IsSomeAnd, IfSome, OnOk, IfOk, IfErr};
 ghost use Rattle.heap_model.specs.Database.{a_record};
 ghost use Rattle.heap_model.specs.Store.{Accepted, store_of};
 ghost use Rattle.heap_model.specs.Refusals.{NoneHolds, FirstBrings};
 ghost use Rattle.heap_model.specs.EntrySteps.{entry_under, HasId};
 ghost use Rattle.heap_model.specs.RecordSteps.{HasLockedOf};
-ghost use Rattle.palm_store.specs.Databases.{HasNumber};
 ghost use Rattle.palm_store.specs.Opened.{IsOpened};
 ghost use Rattle.palm_store.specs.EntryCalls.{entries_of_image, resources_of_image};
 ghost use Rattle.palm_store.specs.Search.{SomeHas};
-ghost use Rattle.palm_store.specs.Checks.{IsNamed, IsLockedChunk, finding_checks};
+ghost use Rattle.palm_store.specs.Checks.{IsNamed, IsLockedChunk, IsFoundAt, finding_checks};
 ghost use Rattle.record_db.specs.Checks.{IsRecordTold, living_checks};
 
 use crate::attributes::{has_category, is_deleted};
@@ -27,13 +26,11 @@ pub(crate) fn find_record(
     access: Access,
 ) -> Result<InDatabase<RecordInfo>, Refusal>
     ensures accepted { Accepted store.now.bytes }
-    ensures known { OnOk result (HasNumber store.now.bytes db.0) }
-    ensures records { OnOk result (resources_of_image store.now.bytes db ≡ false) }
-    ensures inside { OnOk result (index < length (entries_of_image store.now.bytes db)) }
-    ensures opened { IfOk result (λ found. IsOpened store.now.bytes found.opened) }
-    ensures db { IfOk result (λ found. found.opened.db ≡ db) }
+    ensures found { IfOk result (λ found.
+        IsFoundAt store.now.bytes db index EntryKind.Records found.opened) }
     ensures is { IfOk result (λ found. IsRecordTold store.now.bytes db index found.item) }
-    ensures passes { OnOk result (NoneHolds (finding_checks store.now.bytes db index EntryKind.Records access)) }
+    ensures passes { OnOk result
+        (NoneHolds (finding_checks store.now.bytes db index EntryKind.Records access)) }
     ensures refused { IfErr result
         (FirstBrings (finding_checks store.now.bytes db index EntryKind.Records access)) }
 {
@@ -54,11 +51,8 @@ pub(crate) fn find_live(
     access: Access,
 ) -> Result<InDatabase<(RecordInfo, Name)>, Refusal>
     ensures accepted { Accepted store.now.bytes }
-    ensures known { OnOk result (HasNumber store.now.bytes db.0) }
-    ensures records { OnOk result (resources_of_image store.now.bytes db ≡ false) }
-    ensures inside { OnOk result (index < length (entries_of_image store.now.bytes db)) }
-    ensures opened { IfOk result (λ live. IsOpened store.now.bytes live.opened) }
-    ensures db { IfOk result (λ live. live.opened.db ≡ db) }
+    ensures found { IfOk result (λ live.
+        IsFoundAt store.now.bytes db index EntryKind.Records live.opened) }
     ensures is { IfOk result (λ live.
         entry_under (store_of store.now.bytes) db index
         ≡ Some (a_record live.item.0.attributes live.item.0.id live.item.1.0)) }

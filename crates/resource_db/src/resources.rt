@@ -1,14 +1,11 @@
 //! Resources, by their indexes.
 
-ghost use Rattle.std.specs.Prelude.{◌≡◌, ◌<◌, true, Some, length, OnOk, IfOk, IfErr};
+ghost use Rattle.std.specs.Prelude.{◌≡◌, ◌<◌, Some, OnOk, IfOk, IfErr};
 ghost use Rattle.heap_model.specs.Database.{a_resource};
 ghost use Rattle.heap_model.specs.Store.{Accepted, store_of};
 ghost use Rattle.heap_model.specs.Refusals.{NoneHolds, FirstBrings};
 ghost use Rattle.heap_model.specs.EntrySteps.{entry_under};
-ghost use Rattle.palm_store.specs.Databases.{HasNumber};
-ghost use Rattle.palm_store.specs.Opened.{IsOpened};
-ghost use Rattle.palm_store.specs.EntryCalls.{entries_of_image, resources_of_image};
-ghost use Rattle.palm_store.specs.Checks.{finding_checks};
+ghost use Rattle.palm_store.specs.Checks.{IsFoundAt, finding_checks};
 
 use heap_model::{Db, Refusal, ResourceInfo};
 use palm_store::{Access, EntryKind, InDatabase, Store, find_entry};
@@ -21,11 +18,8 @@ pub(crate) fn resource_at(
     access: Access,
 ) -> Result<InDatabase<ResourceInfo>, Refusal>
     ensures accepted { Accepted store.now.bytes }
-    ensures known { OnOk result (HasNumber store.now.bytes db.0) }
-    ensures resources { OnOk result (resources_of_image store.now.bytes db ≡ true) }
-    ensures inside { OnOk result (index < length (entries_of_image store.now.bytes db)) }
-    ensures opened { IfOk result (λ found. IsOpened store.now.bytes found.opened) }
-    ensures db { IfOk result (λ found. found.opened.db ≡ db) }
+    ensures found { IfOk result (λ found.
+        IsFoundAt store.now.bytes db index EntryKind.Resources found.opened) }
     ensures is { IfOk result (λ found.
         entry_under (store_of store.now.bytes) db index
         ≡ Some (a_resource found.item.kind found.item.id found.item.«data».0)) }

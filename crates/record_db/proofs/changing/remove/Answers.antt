@@ -14,7 +14,7 @@ use Rattle.record_db.proofs.changing.remove.Goals as goal
 pub has_locked-requires : goal.has_locked-requires
 has_locked-requires c =
     let found = c.in_ok-found.ensures in
-    data_named c.args.store.now.bytes c.args.db c.args.index c.in_ok-found.found.item found.accepted found.known found.is
+    data_named c.args.store.now.bytes c.args.db c.args.index c.in_ok-found.found.item found.accepted found.found.known found.is
 
 pub returns-then-has_locked-clause-does : goal.returns-then-has_locked-clause-does
 returns-then-has_locked-clause-does c =
@@ -26,7 +26,7 @@ returns-then-has_locked-clause-does c =
 
 pub entry_drop-requires-clause-unlocked : goal.entry_drop-requires-clause-unlocked
 entry_drop-requires-clause-unlocked c =
-    rw c.in_ok-found.ensures.db (let found = c.in_ok-found.ensures in
+    rw c.in_ok-found.ensures.found.db (let found = c.in_ok-found.ensures in
     let locked = locked_data c.args.store.now.bytes c.args.db c.args.index c.in_ok-found.found.item found.accepted found.is in
     λ is. (let yes = c.has_locked.ensures.1 (locked.0 is) in let no = c.if-has_locked.false in absurd cc))
 
@@ -35,7 +35,7 @@ returns-clause-does c =
     let found = c.in_ok-found.ensures in
     let none = found.passes in
     let locked = locked_data c.args.store.now.bytes c.args.db c.args.index c.in_ok-found.found.item found.accepted found.is in
-    let leaves = subst (λ (db : Db). LeavesChanged c.args.store.now c.entry_drop.new.self (λ store. raised (entry_dropped store db c.args.index) db)) found.db c.entry_drop.ensures.dropped in
+    let leaves = subst (λ (db : Db). LeavesChanged c.args.store.now c.entry_drop.new.self (λ store. raised (entry_dropped store db c.args.index) db)) found.found.db c.entry_drop.ensures.dropped in
     changes c.args.store.now c.entry_drop.new.self (calls.Record (Remove c.args.db c.args.index)) Done _ (λ slots. refl) found.accepted leaves
     ((none.0, (none.1.0, (none.1.1.0, (none.1.1.1.0, ((λ is. (let yes = c.has_locked.ensures.1 (locked.0 is) in let no = c.if-has_locked.false in absurd cc)), tt))))), (tt, leaves.same)) c.entry_drop.ensures.kept.loan tt c.entry_drop.ensures.kept.rest
 

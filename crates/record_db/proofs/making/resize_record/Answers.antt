@@ -23,7 +23,7 @@ returns-in_err-live-clause-one_stretch c = itself_alone c.args.store.now.bytes (
 
 pub entry_resize-requires : goal.entry_resize-requires
 entry_resize-requires c = record {
-  own = record { db = c.args.db; index = c.args.index; number = c.in_ok-live.ensures.known; is = ap data_of_entry c.in_ok-live.ensures.is; some = c.in_ok-live.ensures.some };
+  own = record { db = c.args.db; index = c.args.index; number = c.in_ok-live.ensures.found.known; is = ap data_of_entry c.in_ok-live.ensures.is; some = c.in_ok-live.ensures.some };
 }
 
 pub returns-in_err-entry_resize-clause-does : goal.returns-in_err-entry_resize-clause-does

@@ -23,7 +23,7 @@ returns-in_err-resource-clause-one_stretch c = itself_alone c.args.store.now.byt
 
 pub entry_resize-requires : goal.entry_resize-requires
 entry_resize-requires c = record {
-  own = record { db = c.args.db; index = c.args.index; number = c.in_ok-resource.ensures.known; is = ap data_of_entry c.in_ok-resource.ensures.is; some = c.in_ok-resource.ensures.some };
+  own = record { db = c.args.db; index = c.args.index; number = c.in_ok-resource.ensures.found.known; is = ap data_of_entry c.in_ok-resource.ensures.is; some = c.in_ok-resource.ensures.some };
 }
 
 pub returns-in_err-entry_resize-clause-does : goal.returns-in_err-entry_resize-clause-does

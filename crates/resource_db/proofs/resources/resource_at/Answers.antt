@@ -20,4 +20,4 @@ pub returns-clause-some : goal.returns-clause-some
 returns-clause-some c =
     let info = c.unwrap.result in
     let found = c.in_ok-found.ensures in
-    has_data c.args.store.now.bytes c.args.db c.args.index info.kind info.id info.«data».0 found.accepted found.known (returns-clause-is c)
+    has_data c.args.store.now.bytes c.args.db c.args.index info.kind info.id info.«data».0 found.accepted found.found.known (returns-clause-is c)
