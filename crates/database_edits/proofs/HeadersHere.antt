@@ -10,13 +10,25 @@ use Rattle.heap_model.specs.Store.{bytes_under}
 use Rattle.laws_heap.proofs.Frames.{length-overwritten}
 use Rattle.laws_heap.proofs.Resizings.{length-sized_to}
 use Rattle.laws_store.proofs.Spellings.{length-header_bytes}
+use Rattle.mem_manager.specs.Lookup.{StandsAs}
 use Rattle.db_format.specs.Headers.{WritesField}
 use Rattle.db_format.proofs.FieldLaws.{over_piece, header_over}
 use Rattle.database_edits.specs.Managers.{IsManagers, Rebodies, HasHeaderOf, PutsHeader}
 use Rattle.database_edits.specs.declared.headers.Heading.{Heading}
 use Rattle.database_edits.specs.Headings.{IsHeading}
+use Rattle.database_edits.specs.Opened.{IsOpenHere, HasHeaderRoom}
+use Rattle.database_edits.specs.declared.opened.OpenDatabase.{OpenDatabase}
 use Rattle.database_edits.proofs.Chunks.{written, through}
-use Rattle.database_edits.proofs.Databases.{kind_read, header_inside}
+use Rattle.database_edits.proofs.Databases.{kind_read, header_inside, managers}
+
+-- an open database has room for a header
+pub room_here : (image : List ℕ) (opened : OpenDatabase) → IsOpenHere image opened
+    → HasHeaderRoom image opened
+room_here image opened is = record {
+  stands = is.stands;
+  managers = managers image opened.db.0 is.spells;
+  inside = header_inside image opened.db.0 is.spells;
+}
 
 -- ---- what is read of it
 
@@ -83,15 +95,16 @@ field_put old new db at bytes Differs m inside writes leaves was now has differs
     (header_over (bytes_under old db) bytes at was now has.front has.name inside (writes was now has.name differs))
     (written old new db at bytes m leaves)
 
--- the chunk is the manager's as before, and as long
-pub put_managers : (old new : List ℕ) (db at : ℕ) (bytes : List ℕ) → IsManagers old db → Leaves old new (put (held old) db at bytes) → IsManagers new db
-put_managers old new db at bytes m leaves = let r = written old new db at bytes m leaves in r.managers
-
-pub put_inside : (old new : List ℕ) (db at : ℕ) (bytes : List ℕ) → IsManagers old db → 78 ≤ length (bytes_under old db) → at + length bytes ≤ 78 → Leaves old new (put (held old) db at bytes) → 78 ≤ length (bytes_under new db)
-put_inside old new db at bytes m inside within leaves =
-    let r = written old new db at bytes m leaves in
-    let same = ap length r.body ∙ length-overwritten (bytes_under old db) at bytes (omega arith) in
-    omega (arith, same, inside)
+-- the chunk is as before, and as long
+pub header_kept : (old new : List ℕ) (opened : OpenDatabase) (at : ℕ) (bytes : List ℕ)
+    → HasHeaderRoom old opened → at + length bytes ≤ 78 → StandsAs new opened.db.0 opened.chunk
+    → Leaves old new (put (held old) opened.db.0 at bytes) → HasHeaderRoom new opened
+header_kept old new opened at bytes room within stands leaves =
+    let inside = room.inside in
+    let r = written old new opened.db.0 at bytes room.managers leaves in
+    let same = ap length r.body
+    ∙ length-overwritten (bytes_under old opened.db.0) at bytes (omega (arith, inside, within)) in
+    record { stands = stands; managers = r.managers; inside = omega (arith, same, inside) }
 
 -- the header that was written is there
 pub header_put : (old new : List ℕ) (db : ℕ) (was now : Database ℕ) → HasHeaderOf old db was → IsDatabaseName now.header.name → Rebodies old new db (overwritten (bytes_under old db) 0 (header_bytes now)) → HasHeaderOf new db now

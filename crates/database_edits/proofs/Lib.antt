@@ -12,3 +12,4 @@ pub mod HeadersHere
 pub mod RaisedNumbers
 pub mod Recorded
 pub mod Loans
+pub mod Kept

@@ -3,3 +3,4 @@ pub mod Opened
 pub mod Edits
 pub mod Headings
 pub mod Recorded
+pub mod Kept

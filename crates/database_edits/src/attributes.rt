@@ -1,7 +1,7 @@
 //! Changes the attributes of all records of a database in one pass.
 
 ghost use Rattle.std.specs.Prelude.{◌≡◌, false};
-ghost use Rattle.heap_model.specs.Lending.{KeepsLoan};
+ghost use Rattle.database_edits.specs.Kept.{OnlyWrites};
 ghost use Rattle.mem_manager.specs.Lookup.{StandsAs};
 ghost use Rattle.database_edits.specs.Recorded.{attributes_changed};
 ghost use Rattle.database_edits.specs.Edits.{Changes, HasKindHere};
@@ -21,8 +21,7 @@ pub fn change_attributes<C: ByteChange>(heap: &mut Heap, opened: OpenDatabase, c
     ensures changed { Changes heap.old.bytes heap.new.bytes opened.db.0
         (attributes_changed (C.made change)) }
     ensures stands { StandsAs heap.new.bytes opened.db.0 opened.chunk }
-    ensures loan { KeepsLoan heap.old heap.new }
-    ensures rest { heap.new ≡ record heap.old { bytes = heap.new.bytes } }
+    ensures kept { OnlyWrites heap.old heap.new }
 {
     let entries = heap.sys_body_found(Name(opened.db.0), opened.chunk).len() - DATABASE_HEADER_SIZE;
     heap.sys_change_every(

@@ -2,7 +2,7 @@
 
 ghost use Rattle.std.specs.Prelude.{◌≡◌};
 ghost use Rattle.heap_model.specs.Database.{DatabaseFits};
-ghost use Rattle.heap_model.specs.Lending.{KeepsLoan};
+ghost use Rattle.database_edits.specs.Kept.{OnlyWrites};
 ghost use Rattle.heap_model.specs.Leaving.{database_here};
 ghost use Rattle.database_edits.specs.Edits.{Changes, with_block};
 ghost use Rattle.database_edits.specs.Opened.{IsOpenHere};
@@ -18,8 +18,7 @@ pub fn write_block(heap: &mut Heap, opened: OpenDatabase, which: Which, slot: u3
     requires opened { IsOpenHere heap.old.bytes opened }
     ensures written { Changes heap.old.bytes heap.new.bytes opened.db.0 (with_block which slot) }
     ensures fits { DatabaseFits (with_block which slot (database_here heap.old.bytes opened.db.0)) }
-    ensures loan { KeepsLoan heap.old heap.new }
-    ensures rest { heap.new ≡ record heap.old { bytes = heap.new.bytes } }
+    ensures kept { OnlyWrites heap.old heap.new }
 {
     let heading = heading_here(heap, opened);
     put_info_block(heap, opened, which, slot);

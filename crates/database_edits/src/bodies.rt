@@ -6,7 +6,7 @@ ghost use Rattle.heap_model.specs.Chunk.{need};
 ghost use Rattle.heap_model.specs.Space.{ShortFor};
 ghost use Rattle.heap_model.specs.Database.{entry_bytes};
 ghost use Rattle.heap_model.specs.Database as databases;
-ghost use Rattle.heap_model.specs.Lending.{KeepsLoan};
+ghost use Rattle.database_edits.specs.Kept.{OnlyWrites, OnlySlides};
 ghost use Rattle.heap_model.specs.Leaving.{database_here};
 ghost use Rattle.heap_model.specs.Store.{bytes_under};
 ghost use Rattle.db_format.specs.EitherEntry.{entry_of, is_resource, HasFittingId};
@@ -31,8 +31,7 @@ pub(crate) fn put_part(heap: &mut Heap, opened: OpenDatabase, at: u32, part: &[u
     ensures writes { Rebodies heap.old.bytes heap.new.bytes opened.db.0
         (overwritten (bytes_under heap.old.bytes opened.db.0) at part.now) }
     ensures stands { StandsAs heap.new.bytes opened.db.0 opened.chunk }
-    ensures loan { KeepsLoan heap.old heap.new }
-    ensures rest { heap.new ≡ record heap.old { bytes = heap.new.bytes } }
+    ensures kept { OnlyWrites heap.old heap.new }
 {
     heap.sys_write(Name(opened.db.0), opened.chunk, at, part);
 }
@@ -59,8 +58,7 @@ pub(crate) fn put_entry(
         (databases.entry_offset resources index) (entry_bytes (entry_of entry))) }
     ensures len { length (bytes_under heap.new.bytes opened.db.0) ≡ length (bytes_under heap.old.bytes opened.db.0) }
     ensures stands { StandsAs heap.new.bytes opened.db.0 opened.chunk }
-    ensures loan { KeepsLoan heap.old heap.new }
-    ensures rest { heap.new ≡ record heap.old { bytes = heap.new.bytes } }
+    ensures kept { OnlyWrites heap.old heap.new }
 {
     let at = entry_offset(resources, index) as u32;
     match entry {
@@ -93,8 +91,7 @@ pub(crate) fn slide_entries(
         (databases.entry_offset resources first) (databases.entry_offset resources end))) }
     ensures len { length (bytes_under heap.new.bytes opened.db.0) ≡ length (bytes_under heap.old.bytes opened.db.0) }
     ensures stands { StandsAs heap.new.bytes opened.db.0 opened.chunk }
-    ensures loan { KeepsLoan heap.old heap.new }
-    ensures rest { heap.new ≡ record heap.old { bytes = heap.new.bytes; slid = heap.new.slid } }
+    ensures kept { OnlySlides heap.old heap.new }
 {
     if first >= end {
         return;
@@ -124,8 +121,7 @@ pub(crate) fn grow(heap: &mut Heap, opened: OpenDatabase, size: u32) -> Result<(
     ensures no_room { OnErr result (ShortFor heap.old.bytes opened.db.0 (need size)) }
     ensures refusal { IfErr result (λ refusal. refusal ≡ Refusal.NotEnoughSpace) }
     ensures refused { OnErr result (heap.new ≡ heap.old) }
-    ensures loan { KeepsLoan heap.old heap.new }
-    ensures rest { heap.new ≡ record heap.old { bytes = heap.new.bytes; slid = heap.new.slid } }
+    ensures kept { OnlySlides heap.old heap.new }
 {
     heap.sys_resize(Name(opened.db.0), opened.chunk, size)
 }
@@ -138,8 +134,7 @@ pub(crate) fn shrink(heap: &mut Heap, opened: OpenDatabase, size: u32)
     requires inside { size ≤ length (bytes_under heap.old.bytes opened.db.0) }
     ensures shrinks { Rebodies heap.old.bytes heap.new.bytes opened.db.0
         (sized_to (bytes_under heap.old.bytes opened.db.0) size) }
-    ensures loan { KeepsLoan heap.old heap.new }
-    ensures rest { heap.new ≡ record heap.old { bytes = heap.new.bytes; slid = heap.new.slid } }
+    ensures kept { OnlySlides heap.old heap.new }
 {
     heap.sys_resize(Name(opened.db.0), opened.chunk, size)
         .unwrap();

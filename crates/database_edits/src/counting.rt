@@ -2,7 +2,7 @@
 
 ghost use Rattle.std.specs.Prelude.{◌≡◌};
 ghost use Rattle.heap_model.specs.Space.{MovesNothing};
-ghost use Rattle.heap_model.specs.Lending.{KeepsLoan};
+ghost use Rattle.database_edits.specs.Kept.{OnlyWrites};
 ghost use Rattle.heap_model.specs.Leaving.{database_here};
 ghost use Rattle.database_edits.specs.Edits.{Changes, counted, counted_if};
 ghost use Rattle.database_edits.specs.Opened.{IsOpenHere};
@@ -19,8 +19,7 @@ pub fn count_change(heap: &mut Heap, opened: OpenDatabase)
     ensures opened { IsOpenHere heap.new.bytes opened }
     ensures now { database_here heap.new.bytes opened.db.0 ≡ counted (database_here heap.old.bytes opened.db.0) }
     ensures unmoved { MovesNothing heap.old.bytes heap.new.bytes }
-    ensures loan { KeepsLoan heap.old heap.new }
-    ensures rest { heap.new ≡ record heap.old { bytes = heap.new.bytes } }
+    ensures kept { OnlyWrites heap.old heap.new }
 {
     let heading = heading_here(heap, opened);
     put_modification_number(heap, opened, heading.modification_number.wrapping_add(1));
@@ -34,8 +33,7 @@ pub(crate) fn count_change_if(heap: &mut Heap, opened: OpenDatabase, counts: boo
     ensures opened { IsOpenHere heap.new.bytes opened }
     ensures now { database_here heap.new.bytes opened.db.0
         ≡ counted_if counts (database_here heap.old.bytes opened.db.0) }
-    ensures loan { KeepsLoan heap.old heap.new }
-    ensures rest { heap.new ≡ record heap.old { bytes = heap.new.bytes } }
+    ensures kept { OnlyWrites heap.old heap.new }
 {
     if counts {
         count_change(heap, opened);

@@ -1,16 +1,12 @@
 //! Reads and writes the fields of a header that edits need, in place.
 
-ghost use Rattle.std.specs.Prelude.{◌≡◌, ◌≤◌, length};
-ghost use Rattle.heap_model.specs.DatabaseFields.{header_size};
 ghost use Rattle.heap_model.specs.Space.{MovesNothing};
-ghost use Rattle.heap_model.specs.Lending.{KeepsLoan};
+ghost use Rattle.database_edits.specs.Kept.{OnlyWrites};
 ghost use Rattle.heap_model.specs.Leaving.{database_here};
-ghost use Rattle.heap_model.specs.Store.{bytes_under};
 ghost use Rattle.db_format.specs.Headers.{HasModificationNumber, HasSeed, HasEntryCount, HasInfoBlock};
-ghost use Rattle.mem_manager.specs.Lookup.{StandsAs};
-ghost use Rattle.database_edits.specs.Managers.{IsManagers, PutsHeader};
+ghost use Rattle.database_edits.specs.Managers.{PutsHeader};
 ghost use Rattle.database_edits.specs.Headings.{IsHeading};
-ghost use Rattle.database_edits.specs.Opened.{IsOpenHere};
+ghost use Rattle.database_edits.specs.Opened.{IsOpenHere, HasHeaderRoom};
 
 use crate::opened::OpenDatabase;
 use db_format::{
@@ -48,14 +44,11 @@ pub(crate) fn heading_here(heap: &Heap, opened: OpenDatabase) -> Heading
 /// Writes the modification number into a header.
 #[inline(always)]
 pub(crate) fn put_modification_number(heap: &mut Heap, opened: OpenDatabase, number: u32)
-    requires stands { StandsAs heap.old.bytes opened.db.0 opened.chunk }
-    requires managers { IsManagers heap.old.bytes opened.db.0 }
-    requires inside { header_size ≤ length (bytes_under heap.old.bytes opened.db.0) }
+    requires header { HasHeaderRoom heap.old.bytes opened }
     ensures puts { PutsHeader heap.old.bytes heap.new.bytes opened.db.0 (HasModificationNumber number) }
     ensures unmoved { MovesNothing heap.old.bytes heap.new.bytes }
-    ensures stands { StandsAs heap.new.bytes opened.db.0 opened.chunk }
-    ensures loan { KeepsLoan heap.old heap.new }
-    ensures rest { heap.new ≡ record heap.old { bytes = heap.new.bytes } }
+    ensures header { HasHeaderRoom heap.new.bytes opened }
+    ensures kept { OnlyWrites heap.old heap.new }
 {
     let bytes = modification_number_bytes(number);
     heap.sys_write(
@@ -69,15 +62,10 @@ pub(crate) fn put_modification_number(heap: &mut Heap, opened: OpenDatabase, num
 /// Writes the field of the seed into a header.
 #[inline(always)]
 pub(crate) fn put_seed(heap: &mut Heap, opened: OpenDatabase, seed: u32)
-    requires stands { StandsAs heap.old.bytes opened.db.0 opened.chunk }
-    requires managers { IsManagers heap.old.bytes opened.db.0 }
-    requires inside { header_size ≤ length (bytes_under heap.old.bytes opened.db.0) }
+    requires header { HasHeaderRoom heap.old.bytes opened }
     ensures puts { PutsHeader heap.old.bytes heap.new.bytes opened.db.0 (HasSeed seed) }
-    ensures managers { IsManagers heap.new.bytes opened.db.0 }
-    ensures inside { header_size ≤ length (bytes_under heap.new.bytes opened.db.0) }
-    ensures stands { StandsAs heap.new.bytes opened.db.0 opened.chunk }
-    ensures loan { KeepsLoan heap.old heap.new }
-    ensures rest { heap.new ≡ record heap.old { bytes = heap.new.bytes } }
+    ensures header { HasHeaderRoom heap.new.bytes opened }
+    ensures kept { OnlyWrites heap.old heap.new }
 {
     let bytes = seed_bytes(seed);
     heap.sys_write(Name(opened.db.0), opened.chunk, SEED_AT as u32, &bytes);
@@ -86,15 +74,10 @@ pub(crate) fn put_seed(heap: &mut Heap, opened: OpenDatabase, seed: u32)
 /// Writes the number of entries into a header.
 #[inline(always)]
 pub(crate) fn put_entry_count(heap: &mut Heap, opened: OpenDatabase, count: u16)
-    requires stands { StandsAs heap.old.bytes opened.db.0 opened.chunk }
-    requires managers { IsManagers heap.old.bytes opened.db.0 }
-    requires inside { header_size ≤ length (bytes_under heap.old.bytes opened.db.0) }
+    requires header { HasHeaderRoom heap.old.bytes opened }
     ensures puts { PutsHeader heap.old.bytes heap.new.bytes opened.db.0 (HasEntryCount count) }
-    ensures managers { IsManagers heap.new.bytes opened.db.0 }
-    ensures inside { header_size ≤ length (bytes_under heap.new.bytes opened.db.0) }
-    ensures stands { StandsAs heap.new.bytes opened.db.0 opened.chunk }
-    ensures loan { KeepsLoan heap.old heap.new }
-    ensures rest { heap.new ≡ record heap.old { bytes = heap.new.bytes } }
+    ensures header { HasHeaderRoom heap.new.bytes opened }
+    ensures kept { OnlyWrites heap.old heap.new }
 {
     let bytes = entry_count_bytes(count);
     heap.sys_write(
@@ -107,15 +90,10 @@ pub(crate) fn put_entry_count(heap: &mut Heap, opened: OpenDatabase, count: u16)
 
 /// Writes the slot of an info block, or 0 for none, into a header.
 pub(crate) fn put_info_block(heap: &mut Heap, opened: OpenDatabase, which: Which, slot: u32)
-    requires stands { StandsAs heap.old.bytes opened.db.0 opened.chunk }
-    requires managers { IsManagers heap.old.bytes opened.db.0 }
-    requires inside { header_size ≤ length (bytes_under heap.old.bytes opened.db.0) }
+    requires header { HasHeaderRoom heap.old.bytes opened }
     ensures puts { PutsHeader heap.old.bytes heap.new.bytes opened.db.0 (HasInfoBlock which slot) }
-    ensures managers { IsManagers heap.new.bytes opened.db.0 }
-    ensures inside { header_size ≤ length (bytes_under heap.new.bytes opened.db.0) }
-    ensures stands { StandsAs heap.new.bytes opened.db.0 opened.chunk }
-    ensures loan { KeepsLoan heap.old heap.new }
-    ensures rest { heap.new ≡ record heap.old { bytes = heap.new.bytes } }
+    ensures header { HasHeaderRoom heap.new.bytes opened }
+    ensures kept { OnlyWrites heap.old heap.new }
 {
     let bytes = info_block_bytes(slot);
     heap.sys_write(

@@ -4,7 +4,7 @@ ghost use Rattle.std.specs.Prelude.{◌≡◌, ◌<◌, ◌≤◌, length, OnOk,
 ghost use Rattle.heap_model.specs.Database.{DatabaseHeader};
 ghost use Rattle.heap_model.specs.EntrySteps.{seeded_by, most_entries};
 ghost use Rattle.heap_model.specs.UniqueIds.{greatest_id, with_seed};
-ghost use Rattle.heap_model.specs.Lending.{KeepsLoan};
+ghost use Rattle.database_edits.specs.Kept.{OnlySlides};
 ghost use Rattle.heap_model.specs.Leaving.{database_here};
 ghost use Rattle.db_format.specs.EitherEntry.{entry_of, is_resource, HasFittingId};
 ghost use Rattle.database_edits.specs.Edits.{Changes, HasKindHere, HasNoRoomForEntry, entry_inserted};
@@ -41,8 +41,7 @@ pub fn insert_entry(
     ensures no_room { OnErr result (HasNoRoomForEntry heap.old.bytes opened.db.0 (is_resource entry)) }
     ensures refusal { IfErr result (λ refusal. refusal ≡ Refusal.NotEnoughSpace) }
     ensures refused { OnErr result (heap.new ≡ heap.old) }
-    ensures loan { KeepsLoan heap.old heap.new }
-    ensures rest { heap.new ≡ record heap.old { bytes = heap.new.bytes; slid = heap.new.slid } }
+    ensures kept { OnlySlides heap.old heap.new }
 {
     let heading = heading_here(heap, opened);
     let count = opened.entry_count as u16;

@@ -1,7 +1,7 @@
 //! Moves an entry within its database.
 
 ghost use Rattle.std.specs.Prelude.{◌≡◌, ◌<◌, ◌≤◌, ◌+◌, length};
-ghost use Rattle.heap_model.specs.Lending.{KeepsLoan};
+ghost use Rattle.database_edits.specs.Kept.{OnlySlides};
 ghost use Rattle.heap_model.specs.Leaving.{database_here};
 ghost use Rattle.database_edits.specs.Edits.{Changes, with_moved};
 ghost use Rattle.database_edits.specs.Opened.{IsOpenHere};
@@ -17,8 +17,7 @@ pub fn move_entry(heap: &mut Heap, opened: OpenDatabase, from: u16, to: u16)
     requires from_inside { from < length (database_here heap.old.bytes opened.db.0).entries }
     requires to_inside { to ≤ length (database_here heap.old.bytes opened.db.0).entries }
     ensures respells { Changes heap.old.bytes heap.new.bytes opened.db.0 (with_moved from to) }
-    ensures loan { KeepsLoan heap.old heap.new }
-    ensures rest { heap.new ≡ record heap.old { bytes = heap.new.bytes; slid = heap.new.slid } }
+    ensures kept { OnlySlides heap.old heap.new }
 {
     if to < from {
         move_to_front(heap, opened, from, to);
@@ -33,8 +32,7 @@ fn move_to_front(heap: &mut Heap, opened: OpenDatabase, from: u16, to: u16)
     requires inside { from < length (database_here heap.old.bytes opened.db.0).entries }
     requires front { to < from }
     ensures respells { Changes heap.old.bytes heap.new.bytes opened.db.0 (with_moved from to) }
-    ensures loan { KeepsLoan heap.old heap.new }
-    ensures rest { heap.new ≡ record heap.old { bytes = heap.new.bytes; slid = heap.new.slid } }
+    ensures kept { OnlySlides heap.old heap.new }
 {
     let entry = entry_here(heap, opened, from);
     let resources = entry.is_resource();
@@ -49,8 +47,7 @@ fn move_to_back(heap: &mut Heap, opened: OpenDatabase, from: u16, to: u16)
     requires inside { to ≤ length (database_here heap.old.bytes opened.db.0).entries }
     requires back { from + 1 < to }
     ensures respells { Changes heap.old.bytes heap.new.bytes opened.db.0 (with_moved from to) }
-    ensures loan { KeepsLoan heap.old heap.new }
-    ensures rest { heap.new ≡ record heap.old { bytes = heap.new.bytes; slid = heap.new.slid } }
+    ensures kept { OnlySlides heap.old heap.new }
 {
     let entry = entry_here(heap, opened, from);
     let resources = entry.is_resource();

@@ -1,7 +1,7 @@
 //! Removes an entry, as a counted call.
 
 ghost use Rattle.std.specs.Prelude.{◌≡◌, ◌<◌, length};
-ghost use Rattle.heap_model.specs.Lending.{KeepsLoan};
+ghost use Rattle.database_edits.specs.Kept.{OnlySlides};
 ghost use Rattle.heap_model.specs.Leaving.{database_here};
 ghost use Rattle.database_edits.specs.Edits.{Changes, entry_removed};
 ghost use Rattle.database_edits.specs.Opened.{IsOpenHere};
@@ -19,8 +19,7 @@ pub fn remove_entry(heap: &mut Heap, opened: OpenDatabase, index: u16)
     requires opened { IsOpenHere heap.old.bytes opened }
     requires inside { index < length (database_here heap.old.bytes opened.db.0).entries }
     ensures removed { Changes heap.old.bytes heap.new.bytes opened.db.0 (entry_removed index) }
-    ensures loan { KeepsLoan heap.old heap.new }
-    ensures rest { heap.new ≡ record heap.old { bytes = heap.new.bytes; slid = heap.new.slid } }
+    ensures kept { OnlySlides heap.old heap.new }
 {
     let heading = heading_here(heap, opened);
     let count = opened.entry_count as u16;

@@ -1,7 +1,7 @@
 //! Writes an entry in place of another, or moves an entry, as calls that may be counted.
 
 ghost use Rattle.std.specs.Prelude.{◌≡◌, ◌<◌, ◌≤◌, length};
-ghost use Rattle.heap_model.specs.Lending.{KeepsLoan};
+ghost use Rattle.database_edits.specs.Kept.{OnlyWrites, OnlySlides};
 ghost use Rattle.heap_model.specs.Leaving.{database_here};
 ghost use Rattle.db_format.specs.EitherEntry.{entry_of, is_resource, HasFittingId};
 ghost use Rattle.mem_manager.specs.Lookup.{StandsAs};
@@ -25,8 +25,7 @@ pub fn write_entry(heap: &mut Heap, opened: OpenDatabase, index: u16, entry: DbE
     ensures written { Changes heap.old.bytes heap.new.bytes opened.db.0
         (entry_written counts index (entry_of entry)) }
     ensures stands { StandsAs heap.new.bytes opened.db.0 opened.chunk }
-    ensures loan { KeepsLoan heap.old heap.new }
-    ensures rest { heap.new ≡ record heap.old { bytes = heap.new.bytes } }
+    ensures kept { OnlyWrites heap.old heap.new }
 {
     count_change_if(heap, opened, counts);
     writing::write_entry(heap, opened, index, entry);
@@ -39,8 +38,7 @@ pub fn move_entry(heap: &mut Heap, opened: OpenDatabase, from: u16, to: u16)
     requires from_inside { from < length (database_here heap.old.bytes opened.db.0).entries }
     requires to_inside { to ≤ length (database_here heap.old.bytes opened.db.0).entries }
     ensures moved { Changes heap.old.bytes heap.new.bytes opened.db.0 (entry_moved from to) }
-    ensures loan { KeepsLoan heap.old heap.new }
-    ensures rest { heap.new ≡ record heap.old { bytes = heap.new.bytes; slid = heap.new.slid } }
+    ensures kept { OnlySlides heap.old heap.new }
 {
     count_change(heap, opened);
     moving::move_entry(heap, opened, from, to);

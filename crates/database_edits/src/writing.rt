@@ -1,7 +1,7 @@
 //! Writes an entry in place of another.
 
 ghost use Rattle.std.specs.Prelude.{◌≡◌, ◌<◌, length};
-ghost use Rattle.heap_model.specs.Lending.{KeepsLoan};
+ghost use Rattle.database_edits.specs.Kept.{OnlyWrites};
 ghost use Rattle.heap_model.specs.Leaving.{database_here};
 ghost use Rattle.db_format.specs.EitherEntry.{entry_of, is_resource, HasFittingId};
 ghost use Rattle.db_format.specs.Entries.{with_entry};
@@ -24,8 +24,7 @@ pub fn write_entry(heap: &mut Heap, opened: OpenDatabase, index: u16, entry: DbE
     ensures respells { Changes heap.old.bytes heap.new.bytes opened.db.0
         (λ database. with_entry database index (entry_of entry)) }
     ensures stands { StandsAs heap.new.bytes opened.db.0 opened.chunk }
-    ensures loan { KeepsLoan heap.old heap.new }
-    ensures rest { heap.new ≡ record heap.old { bytes = heap.new.bytes } }
+    ensures kept { OnlyWrites heap.old heap.new }
 {
     put_entry(heap, opened, index, entry, entry.is_resource());
 }

@@ -1,15 +1,14 @@
 -- The entries of the database of a number, as its header spells them.
-use Rattle.std.proofs.Common.{◌≡◌, ℕ, ◌+◌, ◌<◌, ◌≤◌, ◌^◌, Bool, false, List, length, Option, Some, None, sym, ap, subst, ◌∙◌, arith}
-use Rattle.std.specs.Prelude.{slice_get, IfSome, IfNone}
+use Rattle.std.proofs.Common.{◌≡◌, ℕ, ◌+◌, ◌<◌, ◌≤◌, ◌^◌, Bool, false, List, length, Option, Some, sym, ap, subst, ◌∙◌, arith}
+use Rattle.std.specs.Prelude.{slice_get}
 use Rattle.heap_model.specs.Bytes.{u16_at}
 use Rattle.heap_model.specs.DatabaseFields.{header_size, attributes_at}
 use Rattle.heap_model.specs.Database.{Entry, Database, database_in, entry_in, entry_count_in, resources_in, entry_offset, has_resources, EntryFits}
 use Rattle.heap_model.specs.Store.{bytes_under, Accepted, store_of}
 use Rattle.heap_model.specs.StoreWords.{In}
 use Rattle.heap_model.specs.Leaving.{database_here}
-use Rattle.heap_model.specs.EntrySteps.{entries_in, OfEntry, Tells, resources_under}
+use Rattle.heap_model.specs.EntrySteps.{entries_in, OfEntry, resources_under}
 use Rattle.heap_model.specs.declared.names.Db.{Db}
-use Rattle.heap_model.specs.declared.entry.Entry as heard
 use Rattle.db_format.proofs.ViewLaws.{attributes_read, length-read, entry_read}
 use Rattle.laws_store.proofs.Shapes.{offset_below}
 use Rattle.laws_store.proofs.Numbered.{in_store, number_here, number_spelled, entries_here, kind_here, entry_fits, accepted_sound, accepted_spells}
@@ -17,7 +16,6 @@ use Rattle.database_edits.specs.declared.opened.OpenDatabase.{OpenDatabase}
 use Rattle.database_edits.specs.Opened.{IsOpenHere}
 use Rattle.palm_store.specs.Databases.{HasNumber, HasDatabase}
 use Rattle.palm_store.specs.Opened.{IsOpened}
-use Rattle.palm_store.specs.EntryCalls.{IsHeard}
 use Rattle.palm_store.proofs.Numbers.{number_shape}
 
 pub attributes_in_store : (image body : List ℕ) (db : Db) (attributes : ℕ) → HasNumber image db.0 → body ≡ bytes_under image db.0 → attributes ≡ u16_at body attributes_at → In (store_of image) db (λ database. database.header.attributes ≡ attributes)
@@ -89,16 +87,3 @@ records_here image body db has body_is records = ap resources_in body_is ∙ ap 
 pub read_here : (image body : List ℕ) (db : Db) (database : Database ℕ) → HasNumber image db.0 → body ≡ bytes_under image db.0 → database ≡ database_in body → HasDatabase image db.0 database
 read_here image body db database has body_is is =
     number_here image db.0 has ∙ ap (λ (d : Database ℕ). Some (record { db = db.0; database = d })) (ap database_in (sym body_is) ∙ sym is)
-
--- ---- what is heard of an index
-
-pub told_at : (body : List ℕ) (index : ℕ) (entry : Entry ℕ) (P : Entry ℕ → Type 0) → index < entry_count_in body → entry ≡ entry_in body index → P entry → OfEntry (slice_get (database_in body).entries index) P
-told_at body index entry P below is p =
-    of_entry (slice_get (database_in body).entries index) entry P (entry_read body index below ∙ ap (λ (e : Entry ℕ). Some e) (sym is)) p
-
-pub heard_here : (image body : List ℕ) (db : Db) (index : ℕ) (found : Option heard.Entry) → HasNumber image db.0 → body ≡ bytes_under image db.0
-    → IfSome found (λ entry. OfEntry (slice_get (database_in body).entries index) (Tells entry)) → IfNone found (entry_count_in body ≤ index) → IsHeard image db index found
-heard_here image body db index None has body_is there none = let count = count_here image body db has body_is in omega (arith, count, none)
-heard_here image body db index (Some entry) has body_is there none =
-    subst (λ (entries : List (Entry ℕ)). OfEntry (slice_get entries index) (Tells entry)) (sym (entries_here image db has))
-    (subst (λ (xs : List ℕ). OfEntry (slice_get (database_in xs).entries index) (Tells entry)) body_is there)

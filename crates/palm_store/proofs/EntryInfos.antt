@@ -12,9 +12,8 @@ use Rattle.heap_model.specs.declared.names.Db.{Db}
 use Rattle.laws_store.specs.Entries.{HasOwnId}
 use Rattle.laws_store.proofs.Numbered.{accepted_sound, entry_here, kind_here, data_here, entry_fits, entry_names}
 use Rattle.palm_store.specs.Databases.{HasNumber}
-use Rattle.palm_store.specs.declared.entries.infos.EntryInfo.{EntryInfo}
 use Rattle.palm_store.specs.declared.entries.infos.EntryInfo.TheVariants as infos
-use Rattle.palm_store.specs.EntryInfos.{with_info, CanHave, HasFittingInfo}
+use Rattle.palm_store.specs.EntryInfos.{EntryInfo, with_info, CanHave, HasFittingInfo}
 
 pub fitting_info : (image : List ℕ) (db : Db) (index : ℕ) (info : EntryInfo) → CanHave (store_of image) db (resources_under (store_of image) db) index info → HasFittingInfo info
 fitting_info image db index (infos.Record attributes id) can = can.2

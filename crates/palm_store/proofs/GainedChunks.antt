@@ -20,7 +20,6 @@ use Rattle.heap_model.specs.Store.{owner_under}
 use Rattle.heap_model.specs.StoreWords.{all_gone}
 use Rattle.heap_model.specs.declared.names.Name.{Name}
 use Rattle.heap_model.specs.declared.refusal.Refusal.{Refusal}
-use Rattle.palm_store.specs.declared.databases.whole.WholeEntry.{WholeEntry}
 use Rattle.palm_store.specs.declared.databases.whole.BlockSizes.{BlockSizes}
 use Rattle.laws_heap.proofs.SameLayouts.{frame_then}
 use Rattle.laws_heap.proofs.Meanings.{held-zero}
@@ -30,7 +29,7 @@ use Rattle.laws_store.proofs.NewDatabases.{slots_made}
 use Rattle.laws_store.proofs.Edited.{here as updated_here, apart as updated_apart}
 use Rattle.mem_manager.specs.Lookup.{MakesNew, IsMovable}
 use Rattle.heap_model.specs.FileSteps.{makings}
-use Rattle.palm_store.specs.WholeDatabases.{size_of_data, data_sizes, numbers_in, IsGained, GainsZeros, RunsOut, Spends, MakesAll, AreOwnChunks}
+use Rattle.palm_store.specs.WholeDatabases.{WholeEntry, size_of_data, data_sizes, numbers_in, IsGained, GainsZeros, RunsOut, Spends, MakesAll, AreOwnChunks}
 use Rattle.palm_store.proofs.Maps.{gone_out, gone_in, kept, owner_none, held_some, still_through}
 use Rattle.palm_store.proofs.NamedChunks.{freed_one, freed_more}
 use Rattle.palm_store.proofs.WholeRooms.{spends_both, makings-append, runs_more, runs_then}

@@ -34,8 +34,7 @@ use Rattle.laws_store.proofs.Parts.{one_grown}
 use Rattle.mem_manager.specs.Lookup.{IsMovable}
 use Rattle.database_edits.specs.Edits.{counted, entry_inserted, entry_written, HasNoRoomForEntry}
 use Rattle.palm_store.specs.Databases.{HasNumber}
-use Rattle.palm_store.specs.declared.entries.infos.NewEntry.{NewEntry}
-use Rattle.palm_store.specs.EntryInfos.{IsMadeOf}
+use Rattle.palm_store.specs.EntryInfos.{NewEntry, IsMadeOf}
 use Rattle.palm_store.specs.NewEntries.{TakesIn}
 use Rattle.palm_store.specs.EntryCalls.{MayBeGiven}
 use Rattle.palm_store.proofs.Maps.{owner_held}

@@ -31,7 +31,6 @@ pub mod FilledData
 pub mod OpenedEntries
 pub mod EntriesChanged
 pub mod StillOpen
-pub mod AccessChecks
 pub mod TwoChanges
 pub mod SearchLaws
 pub mod Rests

@@ -32,9 +32,8 @@ use Rattle.laws_store.proofs.Owners.{owned_some, directory_owner}
 use Rattle.laws_store.proofs.Parts.{made_then_short}
 use Rattle.database_edits.specs.Edits.{entry_inserted, HasNoRoomForEntry}
 use Rattle.palm_store.specs.Databases.{HasNumber}
-use Rattle.palm_store.specs.declared.entries.infos.NewEntry.{NewEntry}
-use Rattle.palm_store.specs.declared.entries.infos.NewEntry.TheVariants as new
-use Rattle.palm_store.specs.EntryInfos.{IsMadeOf}
+use Rattle.palm_store.specs.declared.entries.infos.EntryInfo.TheVariants as new
+use Rattle.palm_store.specs.EntryInfos.{NewEntry, IsMadeOf}
 use Rattle.palm_store.specs.NewEntries.{PutsIn}
 use Rattle.laws_store.proofs.KeptDatabases.{bytes_like}
 use Rattle.palm_store.proofs.EntryChanges.{then_raised}
@@ -141,7 +140,7 @@ named_so slot (a_record attributes id none) = refl
 named_so slot (a_resource kind id none) = refl
 
 pub made_of : (image : List ℕ) (db : Db) (entry : NewEntry) (slot : ℕ) (one : Entry ℕ) → IsMadeOf (store_of image) db entry 0 one → IsMadeOf (store_of image) db entry slot (entry_with (λ none. slot) one)
-made_of image db (new.Record attributes) slot one is = (is.0, is.1, ap (entry_with (λ none. slot)) is.2)
+made_of image db (new.Record attributes none) slot one is = (is.0, is.1, ap (entry_with (λ none. slot)) is.2)
 made_of image db (new.Resource kind id) slot one is = ap (entry_with (λ none. slot)) is
 
 pub names_some : (slot : ℕ) (entry : Entry ℕ) → 0 < slot → NamesData (entry_with (λ none. slot) entry)
@@ -149,7 +148,7 @@ names_some slot (a_record attributes id none) some = λ e. absurd (omega arith)
 names_some slot (a_resource kind id none) some = some
 
 pub new_id : (image : List ℕ) (db : Db) (entry : NewEntry) (slot : ℕ) (one : Entry ℕ) → HasNumber image db.0 → IsMadeOf (store_of image) db entry slot one → HasNewId (unique_ids (database_here image db.0)) one
-new_id image db (new.Record attributes) slot one has is =
+new_id image db (new.Record attributes none) slot one has is =
     let fresh = in_here image db (λ (database : Database ℕ). IsFresh (unique_ids database) (seed_in database.header.seed) is.0) has is.1 in
     let new = fresh_new (unique_ids (database_here image db.0)) (database_here image db.0).header.seed is.0 fresh in
     subst (HasNewId (unique_ids (database_here image db.0))) (sym is.2) (new.0, new.2)
@@ -193,7 +192,7 @@ new_steps old after db at entry one kind slot size a has is puts same_kind fits 
 -- ---- a new record
 
 pub record_made : (image body : List ℕ) (db : Db) (attributes given id : ℕ) → HasNumber image db.0 → body ≡ bytes_under image db.0 → IsFresh (unique_ids (database_in body)) (seed_in (database_in body).header.seed) id → given ≡ attributes
-    → IsMadeOf (store_of image) db (new.Record attributes) 0 (a_record given id 0)
+    → IsMadeOf (store_of image) db (new.Record attributes tt) 0 (a_record given id 0)
 record_made image body db attributes given id has body_is fresh is = (
   id,
   in_store image db (λ (database : Database ℕ). IsFresh (unique_ids database) (seed_in database.header.seed) id) has (subst (λ (xs : List ℕ). IsFresh (unique_ids (database_in xs)) (seed_in (database_in xs).header.seed) id) body_is fresh),

@@ -1,6 +1,7 @@
 -- What two calls after each other leave of a region's value.
 use Rattle.std.proofs.Common.{◌≡◌, ℕ, sym, ap, ◌∙◌}
 use Rattle.heap_model.specs.Memory.{Memory}
+pub use Rattle.database_edits.proofs.Kept.{writes_then, slides_then, none_slid}
 
 -- the first may slide bytes, and so may the second
 pub moved_then : (old mid new : Memory) → mid ≡ record old { bytes = mid.bytes; slid = mid.slid } → new ≡ record mid { bytes = new.bytes; slid = new.slid } → new ≡ record old { bytes = new.bytes; slid = new.slid }

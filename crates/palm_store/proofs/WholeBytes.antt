@@ -27,8 +27,7 @@ use Rattle.laws_store.proofs.Spellings.{length-entry_bytes, length-entries}
 use Rattle.laws_store.proofs.Shapes.{offset_below}
 use Rattle.laws_store.proofs.NewDatabases.{managers_loose}
 use Rattle.laws_store.proofs.Edited.{here as updated_here, apart as updated_apart}
-use Rattle.palm_store.specs.declared.databases.whole.WholeEntry.{WholeEntry}
-use Rattle.palm_store.specs.WholeDatabases.{header_asked, entry_named, entries_named, whole_database, numbers_in}
+use Rattle.palm_store.specs.WholeDatabases.{WholeEntry, header_asked, entry_named, entries_named, whole_database, numbers_in}
 use Rattle.palm_store.proofs.Maps.{owner_held, bytes_held, owned, kept_apart, still_through}
 use Rattle.palm_store.proofs.ListedSlots.{put_here, put_apart, lock_of}
 

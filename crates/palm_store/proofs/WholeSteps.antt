@@ -25,10 +25,9 @@ use Rattle.laws_store.proofs.NewDatabases.{u32s_push}
 use Rattle.laws_store.proofs.Edited.{hidden}
 use Rattle.laws_store.proofs.Listed as listed
 use Rattle.laws_store.proofs.ChangeSteps.{has_store}
-use Rattle.palm_store.specs.declared.databases.whole.WholeEntry.{WholeEntry}
-use Rattle.palm_store.specs.declared.databases.whole.WholeEntry.TheVariants as whole
+use Rattle.palm_store.specs.declared.entries.infos.EntryInfo.TheVariants as infos
 use Rattle.palm_store.specs.declared.databases.whole.BlockSizes.{BlockSizes}
-use Rattle.palm_store.specs.WholeDatabases.{size_of_data, data_sizes, CanCome, id_asked, CanBeWhole, entries_named, whole_database, whole_size, IsGained, GainsZeros, MakesWhole, ListsWhole}
+use Rattle.palm_store.specs.WholeDatabases.{WholeEntry, size_of_data, data_sizes, CanCome, id_asked, CanBeWhole, entries_named, whole_database, whole_size, IsGained, GainsZeros, MakesWhole, ListsWhole}
 use Rattle.palm_store.proofs.Maps.{owner_held, owner_none, owner_alike, bytes_held, held_some}
 use Rattle.palm_store.proofs.ListedSlots.{chunk_of}
 use Rattle.palm_store.proofs.Creation.{slot_fits, own_names, counted, data_alike}
@@ -40,8 +39,8 @@ named_entries : (entries : List WholeEntry) (names : List ℕ) → length names 
 named_entries [] [] long = refl
 named_entries [] (name ∷ names) long = absurd (omega arith)
 named_entries (one ∷ entries) [] long = absurd (omega arith)
-named_entries (whole.Record attributes id size ∷ entries) (name ∷ names) long = ap (λ (more : List ℕ). name ∷ more) (named_entries entries names (omega arith))
-named_entries (whole.Resource kind id size ∷ entries) (name ∷ names) long = ap (λ (more : List ℕ). name ∷ more) (named_entries entries names (omega arith))
+named_entries ((infos.Record attributes id, size) ∷ entries) (name ∷ names) long = ap (λ (more : List ℕ). name ∷ more) (named_entries entries names (omega arith))
+named_entries ((infos.Resource kind id, size) ∷ entries) (name ∷ names) long = ap (λ (more : List ℕ). name ∷ more) (named_entries entries names (omega arith))
 
 pub whole_data : (info : DbInfo) (entries : List WholeEntry) (names : List ℕ) → length names ≡ 2 + length entries → data_in (whole_database info entries names) ≡ names
 whole_data info entries [] long = absurd (omega arith)
@@ -51,12 +50,17 @@ whole_data info entries (one ∷ two ∷ names) long = ap (λ (more : List ℕ).
 names_data : (old new : ChunkMap) (resources : Bool) (entries : List WholeEntry) (names : List ℕ) → AllZip (IsGained old new) (map size_of_data entries) names → All (CanCome resources) entries → All NamesData (entries_named entries names)
 names_data old new resources [] names zip all = All-nil NamesData
 names_data old new resources (one ∷ entries) [] zip all = absurd zip
-names_data old new resources (whole.Record attributes id None ∷ entries) (name ∷ names) zip all =
-    All-cons NamesData _ (entries_named entries names) (λ none. (All-head (CanCome resources) (whole.Record attributes id None) entries all).3 refl) (names_data old new resources entries names zip.1 (All-tail (CanCome resources) (whole.Record attributes id None) entries all))
-names_data old new resources (whole.Record attributes id (Some size) ∷ entries) (name ∷ names) zip all =
-    All-cons NamesData _ (entries_named entries names) (λ none. (let some = zip.0.0 in absurd (omega arith))) (names_data old new resources entries names zip.1 (All-tail (CanCome resources) (whole.Record attributes id (Some size)) entries all))
-names_data old new resources (whole.Resource kind id size ∷ entries) (name ∷ names) zip all =
-    All-cons NamesData _ (entries_named entries names) zip.0.0 (names_data old new resources entries names zip.1 (All-tail (CanCome resources) (whole.Resource kind id size) entries all))
+names_data old new resources ((infos.Record attributes id, None) ∷ entries) (name ∷ names) zip all =
+    All-cons NamesData _ (entries_named entries names) (λ none. (All-head (CanCome resources) (infos.Record attributes id, None) entries all).3 refl) (names_data old new resources entries names zip.1 (All-tail (CanCome resources) (infos.Record attributes id, None) entries all))
+names_data old new resources ((infos.Record attributes id, Some size) ∷ entries) (name ∷ names) zip all =
+    All-cons NamesData _ (entries_named entries names) (λ none. (let some = zip.0.0 in absurd (omega arith))) (names_data old new resources entries names zip.1 (All-tail (CanCome resources) (infos.Record attributes id, Some size) entries all))
+names_data old new resources ((infos.Resource kind id, None) ∷ entries) (name ∷ names) zip all =
+    let some = (All-head (CanCome resources) (infos.Resource kind id, None) entries all).1 in
+    absurd cc
+names_data old new resources ((infos.Resource kind id, Some size) ∷ entries) (name ∷ names) zip all =
+    let more = All-tail (CanCome resources) (infos.Resource kind id, Some size) entries all in
+    All-cons NamesData _ (entries_named entries names) zip.0.0
+    (names_data old new resources entries names zip.1 more)
 
 whole_names_data : (old new : ChunkMap) (info : DbInfo) (blocks : BlockSizes) (entries : List WholeEntry) (names : List ℕ) → AllZip (IsGained old new) (data_sizes blocks entries) names → CanBeWhole info entries → All NamesData (entries_named entries (drop 2 names))
 whole_names_data old new info blocks entries [] zip can = absurd zip
@@ -67,16 +71,16 @@ whole_names_data old new info blocks entries (one ∷ two ∷ names) zip can = n
 
 same_ids : (entries : List WholeEntry) (names : List ℕ) → filter_map unique_id (entries_named entries names) ≡ filter_map id_asked entries
 same_ids [] names = refl
-same_ids (whole.Record attributes id size ∷ entries) [] = ap (λ (ids : List ℕ). id ∷ ids) (same_ids entries [])
-same_ids (whole.Resource kind id size ∷ entries) [] = same_ids entries []
-same_ids (whole.Record attributes id size ∷ entries) (name ∷ names) = ap (λ (ids : List ℕ). id ∷ ids) (same_ids entries names)
-same_ids (whole.Resource kind id size ∷ entries) (name ∷ names) = same_ids entries names
+same_ids ((infos.Record attributes id, size) ∷ entries) [] = ap (λ (ids : List ℕ). id ∷ ids) (same_ids entries [])
+same_ids ((infos.Resource kind id, size) ∷ entries) [] = same_ids entries []
+same_ids ((infos.Record attributes id, size) ∷ entries) (name ∷ names) = ap (λ (ids : List ℕ). id ∷ ids) (same_ids entries names)
+same_ids ((infos.Resource kind id, size) ∷ entries) (name ∷ names) = same_ids entries names
 
 ids_some : (resources : Bool) (entries : List WholeEntry) → All (CanCome resources) entries → All (λ id. id ≢ 0) (filter_map id_asked entries)
 ids_some resources [] all = All-nil (λ id. id ≢ 0)
-ids_some resources (whole.Record attributes id size ∷ entries) all =
-    All-cons (λ id. id ≢ 0) id (filter_map id_asked entries) (λ e. (let some = (All-head (CanCome resources) (whole.Record attributes id size) entries all).1 in omega arith)) (ids_some resources entries (All-tail (CanCome resources) (whole.Record attributes id size) entries all))
-ids_some resources (whole.Resource kind id size ∷ entries) all = ids_some resources entries (All-tail (CanCome resources) (whole.Resource kind id size) entries all)
+ids_some resources ((infos.Record attributes id, size) ∷ entries) all =
+    All-cons (λ id. id ≢ 0) id (filter_map id_asked entries) (λ e. (let some = (All-head (CanCome resources) (infos.Record attributes id, size) entries all).1 in omega arith)) (ids_some resources entries (All-tail (CanCome resources) (infos.Record attributes id, size) entries all))
+ids_some resources ((infos.Resource kind id, size) ∷ entries) all = ids_some resources entries (All-tail (CanCome resources) (infos.Resource kind id, size) entries all)
 
 whole_ids : (info : DbInfo) (entries : List WholeEntry) (names : List ℕ) → CanBeWhole info entries → HasUniqueIds (whole_database info entries names)
 whole_ids info entries names can =

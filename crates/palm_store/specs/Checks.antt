@@ -1,5 +1,5 @@
 -- The first checks of the calls on entries, and the information on an entry.
-use Rattle.std.specs.Prelude.{◌≡◌, not, ℕ, Bool, true, false, List, [], ◌∷◌, IsSome}
+use Rattle.std.specs.Prelude.{◌≡◌, ◌<◌, not, ℕ, Bool, true, false, List, [], ◌∷◌, length, IsSome}
 use Rattle.heap_model.specs.MemorySteps.{Of, IsLocked}
 use Rattle.heap_model.specs.Database.{has_resources, is_read_only}
 use Rattle.heap_model.specs.Store.{Store, store_of}
@@ -11,6 +11,10 @@ use Rattle.heap_model.specs.declared.entry.Entry as heard
 use Rattle.heap_model.specs.declared.entry.Entry.TheVariants as entries
 use Rattle.heap_model.specs.declared.refusal.Refusal.{Refusal}
 use Rattle.heap_model.specs.declared.refusal.Refusal.TheVariants.{NotRecordDatabase, NotResourceDatabase, ReadOnly}
+use Rattle.database_edits.specs.declared.opened.OpenDatabase.{OpenDatabase}
+use Rattle.palm_store.specs.Databases.{HasNumber}
+use Rattle.palm_store.specs.Opened.{IsOpened}
+use Rattle.palm_store.specs.EntryCalls.{entries_of_image, resources_of_image}
 use Rattle.palm_store.specs.declared.opening.Access.{Access}
 use Rattle.palm_store.specs.declared.opening.Access.TheVariants.{Read, Write}
 use Rattle.palm_store.specs.declared.opening.EntryKind.{EntryKind}
@@ -51,6 +55,14 @@ abbrev pub finding_checks : List ℕ → Db → ℕ → EntryKind → Access →
 finding_checks image db index kind access = opening_checks image db kind access (no_entry (store_of image) db index ∷ [])
 
 -- ---- an entry of the image
+
+-- The database of this number was opened. It has entries of the kind, and one at the index.
+pub record IsFoundAt (image : List ℕ) (number : Db) (index : ℕ) (asked : EntryKind) (database : OpenDatabase) : Type 0 where
+  pub known : HasNumber image number.0
+  pub kind : resources_of_image image number ≡ are_resources asked
+  pub inside : index < length (entries_of_image image number)
+  pub opened : IsOpened image database
+  pub db : database.db ≡ number
 
 -- the information is that of the entry at an index
 abbrev pub IsTold : List ℕ → Db → ℕ → heard.Entry → Type 0

@@ -1,5 +1,5 @@
 -- The preconditions and postconditions of the calls on entries, on the store that an image means.
-use Rattle.std.specs.Prelude.{◌≡◌, ◌≢◌, ◌<◌, ◌≤◌, ℕ, Bool, true, false, List, [], length, Option, Some, None}
+use Rattle.std.specs.Prelude.{◌≡◌, ◌≢◌, ◌<◌, ℕ, Bool, true, false, List, []}
 use Rattle.heap_model.specs.Memory.{Memory}
 use Rattle.heap_model.specs.Chunk.{fixed_lock, data_owner}
 use Rattle.heap_model.specs.Database.{Entry}
@@ -8,14 +8,11 @@ use Rattle.heap_model.specs.Maps.{sized}
 use Rattle.heap_model.specs.Refusals.{Check}
 use Rattle.heap_model.specs.MemorySteps.{Of, IsLocked, growth_checks}
 use Rattle.heap_model.specs.Store.{Store, store_of}
-use Rattle.heap_model.specs.StoreWords.{In}
-use Rattle.heap_model.specs.EntrySteps.{entries_in, entry_under, OfEntry, Tells, data_under, resources_under, with_entries, with_chunks, entry_made, entry_attached, entry_changed, entry_swapped, raised, making_checks, attaching_checks, giving_checks, LeavesStore}
+use Rattle.heap_model.specs.EntrySteps.{entries_in, data_under, resources_under, with_entries, with_chunks, entry_made, entry_attached, entry_changed, entry_swapped, raised, making_checks, attaching_checks, giving_checks, LeavesStore}
 use Rattle.heap_model.specs.declared.names.Db.{Db}
-use Rattle.heap_model.specs.declared.entry.Entry as heard
-use Rattle.palm_store.specs.declared.entries.infos.EntryInfo.{EntryInfo}
-use Rattle.palm_store.specs.declared.entries.infos.NewEntry.{NewEntry}
 use Rattle.palm_store.specs.Databases.{HasNumber}
-use Rattle.palm_store.specs.EntryInfos.{with_info, IsMadeOf, CanHave}
+pub use Rattle.database_edits.specs.Kept.{OnlyWrites, OnlySlides}
+use Rattle.palm_store.specs.EntryInfos.{EntryInfo, NewEntry, with_info, IsMadeOf, CanHave}
 
 -- ---- a database of the image
 
@@ -27,15 +24,6 @@ resources_of_image image db = resources_under (store_of image) db
 
 abbrev pub data_of_image : List ℕ → Db → ℕ → ℕ
 data_of_image image db index = data_under (store_of image) db index
-
--- the database has these attributes
-abbrev pub HasDbAttributes : List ℕ → Db → ℕ → Type 0
-HasDbAttributes image db attributes = In (store_of image) db (λ database. database.header.attributes ≡ attributes)
-
--- the information on an index: that of the entry there, or none if there is no entry
-abbrev pub IsHeard : List ℕ → Db → ℕ → Option heard.Entry → Type 0
-IsHeard image db index None = length (entries_of_image image db) ≤ index
-IsHeard image db index (Some entry) = OfEntry (entry_under (store_of image) db index) (Tells entry)
 
 -- the data of an entry is locked
 abbrev pub HasLockedData : List ℕ → Db → ℕ → Type 0

@@ -6,22 +6,26 @@ use Rattle.heap_model.specs.UniqueIds.{greatest_id}
 use Rattle.heap_model.specs.Store.{Store}
 use Rattle.heap_model.specs.EntrySteps.{data_under, IsFreshIn, HasOther, entry_dropped, entry_handed_over}
 use Rattle.heap_model.specs.declared.names.Db.{Db}
-use Rattle.palm_store.specs.declared.entries.infos.EntryInfo.{EntryInfo}
+use Rattle.palm_store.specs.declared.entries.infos.EntryInfo as given
 use Rattle.palm_store.specs.declared.entries.infos.EntryInfo.TheVariants as infos
-use Rattle.palm_store.specs.declared.entries.infos.NewEntry.{NewEntry}
-use Rattle.palm_store.specs.declared.entries.infos.NewEntry.TheVariants as new
+
+abbrev pub EntryInfo : Type 0
+EntryInfo = given.EntryInfo ℕ
 
 -- ---- a new entry
 
+abbrev pub NewEntry : Type 0
+NewEntry = given.EntryInfo (Unit {0})
+
 -- it is a resource; otherwise it is a record
 abbrev pub makes_resource : NewEntry → Bool
-makes_resource (new.Record attributes) = false
-makes_resource (new.Resource kind id) = true
+makes_resource (infos.Record attributes none) = false
+makes_resource (infos.Resource kind id) = true
 
 -- this is the new entry, with its data under a slot; a record gets a fresh ID
 abbrev pub IsMadeOf : Store → Db → NewEntry → ℕ → Entry ℕ → Type 0
-IsMadeOf store db (new.Record attributes) slot entry = (id : ℕ) × IsFreshIn store db id × (entry ≡ a_record attributes id slot)
-IsMadeOf store db (new.Resource kind id) slot entry = entry ≡ a_resource kind id slot
+IsMadeOf store db (infos.Record attributes none) slot entry = (id : ℕ) × IsFreshIn store db id × (entry ≡ a_record attributes id slot)
+IsMadeOf store db (infos.Resource kind id) slot entry = entry ≡ a_resource kind id slot
 
 -- ---- an entry that is set
 

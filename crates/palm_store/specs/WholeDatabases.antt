@@ -1,6 +1,6 @@
 -- Whole new databases: the description of one, the database made from it, and the chunks that the
 -- store gets for its data.
-use Rattle.std.specs.Prelude.{◌≡◌, ◌≢◌, ◌≤◌, ◌<◌, ◌+◌, ◌++◌, ◌⊎◌, ℕ, Bool, true, false, List, [], ◌∷◌, length, map, drop, replicate, Option, Some, None, All}
+use Rattle.std.specs.Prelude.{◌≡◌, ◌≢◌, ◌≤◌, ◌<◌, ◌+◌, ◌++◌, ◌⊎◌, ℕ, Bool, true, false, List, [], ◌∷◌, length, map, drop, replicate, Option, Some, None, IsSome, All}
 use Rattle.std.specs.List.{AllZip, filter_map}
 use Rattle.heap_model.specs.Chunk.{data_owner, managers_owner}
 use Rattle.heap_model.specs.Bytes.{u32_bytes}
@@ -26,31 +26,33 @@ use Rattle.heap_model.specs.declared.database.DbInfo.{DbInfo}
 use Rattle.heap_model.specs.declared.refusal.Refusal.TheVariants.{TooManyEntries}
 use Rattle.mem_manager.specs.Lookup.{IsMovable}
 use Rattle.palm_store.specs.Directory.{ListsLast}
-use Rattle.palm_store.specs.declared.databases.whole.WholeEntry.{WholeEntry}
-use Rattle.palm_store.specs.declared.databases.whole.WholeEntry.TheVariants as whole
+use Rattle.palm_store.specs.EntryInfos.{EntryInfo}
+use Rattle.palm_store.specs.declared.entries.infos.EntryInfo.TheVariants as infos
 use Rattle.palm_store.specs.declared.databases.whole.BlockSizes.{BlockSizes}
 
 -- ---- the description
 
--- the size of an entry's data, if it is to have any
+-- an entry, and the size of its data, if it is to have any
+abbrev pub WholeEntry : Type 0
+WholeEntry = EntryInfo × Option ℕ
+
 abbrev pub size_of_data : WholeEntry → Option ℕ
-size_of_data (whole.Record attributes id size) = size
-size_of_data (whole.Resource kind id size) = Some size
+size_of_data entry = entry.1
 
 -- the sizes of the data of the database: its info blocks, and then its entries
 abbrev pub data_sizes : BlockSizes → List WholeEntry → List (Option ℕ)
 data_sizes blocks entries = blocks.app_info ∷ blocks.sort_info ∷ map size_of_data entries
 
 -- An entry can come to a database. It is a record with an ID, and deleted if it has no data, or it
--- is a resource, as the database has them.
+-- is a resource with data, as the database has them.
 abbrev pub CanCome : Bool → WholeEntry → Type 0
-CanCome resources (whole.Record attributes id size) = (resources ≡ false) × (0 < id) × (id ≤ greatest_id) × (size ≡ None → is_deleted attributes ≡ true)
-CanCome resources (whole.Resource kind id size) = resources ≡ true
+CanCome resources (infos.Record attributes id, size) = (resources ≡ false) × (0 < id) × (id ≤ greatest_id) × (size ≡ None → is_deleted attributes ≡ true)
+CanCome resources (infos.Resource kind id, size) = (resources ≡ true) × IsSome size
 
 -- the ID of an entry, if it is a record
 abbrev pub id_asked : WholeEntry → Option ℕ
-id_asked (whole.Record attributes id size) = Some id
-id_asked (whole.Resource kind id size) = None
+id_asked (infos.Record attributes id, size) = Some id
+id_asked (infos.Resource kind id, size) = None
 
 -- These can be the header and the entries of a database. The name is a database's name. The header
 -- gives the number of the entries, at most 65,535, and their kind. No two records have the same ID.
@@ -80,8 +82,8 @@ header_asked info = record {
 
 -- an entry with its data under a name
 abbrev pub entry_named : WholeEntry → ℕ → Entry ℕ
-entry_named (whole.Record attributes id size) name = a_record attributes id name
-entry_named (whole.Resource kind id size) name = a_resource kind id name
+entry_named (infos.Record attributes id, size) name = a_record attributes id name
+entry_named (infos.Resource kind id, size) name = a_resource kind id name
 
 -- the entries, each with its data under the name at the same index, or under 0 if there are too few
 -- names

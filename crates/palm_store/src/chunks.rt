@@ -1,7 +1,6 @@
 //! Chunks of slots that a database has, and of names that it gets.
 
 ghost use Rattle.std.specs.Prelude.{◌≡◌, ◌<◌, OnOk, IfErr};
-ghost use Rattle.heap_model.specs.Lending.{KeepsLoan};
 ghost use Rattle.heap_model.specs.Heap.{HeapAccepted, directory_of};
 ghost use Rattle.heap_model.specs.Reading.{held};
 ghost use Rattle.heap_model.specs.Space.{MovesNothing};
@@ -10,6 +9,7 @@ ghost use Rattle.heap_model.specs.Leaving.{Leaves};
 ghost use Rattle.heap_model.specs.MemorySteps.{Of, IsLocked};
 ghost use Rattle.heap_model.specs.Refusals.{NoneHolds, FirstBrings};
 ghost use Rattle.mem_manager.specs.Lookup.{IsMovable};
+ghost use Rattle.database_edits.specs.Kept.{OnlyWrites};
 ghost use Rattle.palm_store.specs.EntryCalls.{MayBeGiven, checks_of_giving};
 
 use heap_model::{Name, Refusal};
@@ -24,8 +24,7 @@ pub(crate) fn free_chunk_of(heap: &mut Heap, slot: Name)
     requires no_directory { 0 < slot.0 → slot.0 ≡ directory_of heap.old.bytes → ⊥ }
     ensures leaves { Leaves heap.old.bytes heap.new.bytes (gone (held heap.old.bytes) slot.0) }
     ensures unmoved { MovesNothing heap.old.bytes heap.new.bytes }
-    ensures loan { KeepsLoan heap.old heap.new }
-    ensures rest { heap.new ≡ record heap.old { bytes = heap.new.bytes } }
+    ensures kept { OnlyWrites heap.old heap.new }
 {
     if slot.0 != 0 {
         let chunk = heap.sys_find(slot);

@@ -20,4 +20,4 @@ pub(crate) use completing::{list_whole, write_whole};
 pub(crate) use creating::{empty_header, list_new};
 pub(crate) use deleting::unlist;
 pub(crate) use setting::with_info;
-pub use whole::{BlockSizes, WholeEntry};
+pub use whole::BlockSizes;

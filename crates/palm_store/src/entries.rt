@@ -6,8 +6,8 @@ mod making;
 mod reading;
 mod shapes;
 
-pub use infos::{EntryInfo, FoundEntry, NewEntry};
+pub use infos::{EntryInfo, InDatabase};
 pub(crate) use known::{KnownIds, NOTHING_KNOWN};
 pub(crate) use making::{new_entry, put_in, take_in};
-pub(crate) use reading::{entry_at, read_entry};
-pub(crate) use shapes::{emptied, entry_with, with_slot};
+pub(crate) use reading::read_entry;
+pub(crate) use shapes::{emptied, entry_with, told, with_slot};

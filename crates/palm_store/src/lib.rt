@@ -21,14 +21,12 @@ mod opening;
 mod store;
 
 pub use database_edits::OpenDatabase;
-pub use databases::{BlockSizes, WholeEntry};
-pub use entries::{EntryInfo, FoundEntry, NewEntry};
+pub use databases::BlockSizes;
+pub use entries::{EntryInfo, InDatabase};
 pub use heap_migration::MigrateFault;
 pub use locks::is_locked;
 pub use mem_manager::{FIXED_LOCK, Found, Loan, Locked, check_owner};
-pub use opening::{
-    Access, EntryAt, EntryKind, count_entries, find_entry, open_database, open_entries,
-};
+pub use opening::{Access, EntryKind, count_entries, find_entry, open_database, open_entries};
 pub use palm_text::{WriteFault, put_all};
 pub use store::{ImageFault, NotAStore, Store};
 pub use store_check::{StoreFault, StoreSummary};

@@ -1,14 +1,15 @@
 //! The first checks of the calls on entries.
 
-ghost use Rattle.std.specs.Prelude.{◌≡◌, ◌<◌, [], length, OnOk, IfOk, IfErr};
+ghost use Rattle.std.specs.Prelude.{◌≡◌, [], length, OnOk, IfOk, IfErr};
 ghost use Rattle.heap_model.specs.Database.{has_resources};
 ghost use Rattle.heap_model.specs.Store.{Accepted};
 ghost use Rattle.heap_model.specs.Refusals.{NoneHolds, FirstBrings};
 ghost use Rattle.palm_store.specs.Databases.{HasNumber, HasDatabase};
 ghost use Rattle.palm_store.specs.Opened.{IsOpened};
 ghost use Rattle.palm_store.specs.EntryCalls.{entries_of_image, resources_of_image};
-ghost use Rattle.palm_store.specs.Checks.{are_resources, wrong_kind, attribute_checks, opening_checks, finding_checks, IsTold, IsOfKind};
+ghost use Rattle.palm_store.specs.Checks.{are_resources, wrong_kind, attribute_checks, opening_checks, finding_checks, IsFoundAt, IsTold, IsOfKind};
 
+use crate::entries::InDatabase;
 use crate::store::Store;
 use database_edits::OpenDatabase;
 use db_format::{DatabaseView, DbAttrs};
@@ -122,13 +123,6 @@ pub fn count_entries(store: &Store, db: Db, kind: EntryKind, access: Access) -> 
     Ok(open_entries(store, db, kind, access)?.entry_count)
 }
 
-/// An entry, and its database.
-#[derive(Clone, Copy)]
-pub struct EntryAt {
-    pub opened: OpenDatabase,
-    pub entry: Entry,
-}
-
 /// Returns the fields of the entry at an index, of a database that has entries of a kind, for an
 /// access.
 ///
@@ -144,28 +138,23 @@ pub fn find_entry(
     index: u32,
     kind: EntryKind,
     access: Access,
-) -> Result<EntryAt, Refusal>
+) -> Result<InDatabase<Entry>, Refusal>
     ensures accepted { Accepted store.now.bytes }
-    ensures known { OnOk result (HasNumber store.now.bytes db.0) }
-    ensures kind { OnOk result (resources_of_image store.now.bytes db ≡ are_resources kind) }
-    ensures inside { OnOk result (index < length (entries_of_image store.now.bytes db)) }
-    ensures opened { IfOk result (λ found. IsOpened store.now.bytes found.opened) }
-    ensures db { IfOk result (λ found. found.opened.db ≡ db) }
-    ensures is { IfOk result (λ found. IsTold store.now.bytes db index found.entry) }
-    ensures of_kind { IfOk result (λ found. IsOfKind kind found.entry) }
+    ensures found { IfOk result (λ found. IsFoundAt store.now.bytes db index kind found.opened) }
+    ensures is { IfOk result (λ found. IsTold store.now.bytes db index found.item) }
+    ensures of_kind { IfOk result (λ found. IsOfKind kind found.item) }
     ensures passes { OnOk result
         (NoneHolds (finding_checks store.now.bytes db index kind access)) }
     ensures refused { IfErr result
         (FirstBrings (finding_checks store.now.bytes db index kind access)) }
 {
-    let found = store.find_entry(db, index)?;
-    check_attributes(found.attributes, kind, access)?;
-    let Some(entry) = found.entry else {
+    let opened = open_entries(store, db, kind, access)?;
+    if index >= opened.entry_count {
         return Err(Refusal::IndexOutOfRange);
-    };
-    Ok(EntryAt {
-        opened: found.opened,
-        entry,
+    }
+    Ok(InDatabase {
+        opened,
+        item: store.entry_in(opened, index),
     })
 }
 

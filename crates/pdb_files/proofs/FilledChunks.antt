@@ -6,7 +6,6 @@ use Rattle.std.proofs.lemmas.Bool.{cases_eq, cases_lt}
 use Rattle.std.proofs.lemmas.List.{length-replicate}
 use Rattle.heap_model.specs.Chunk.{data_owner}
 use Rattle.heap_model.specs.Memory.{Memory}
-use Rattle.heap_model.specs.Lending.{KeepsLoan}
 use Rattle.heap_model.specs.Heap.{HeapAccepted, directory_of}
 use Rattle.heap_model.specs.Lists.{times}
 use Rattle.heap_model.specs.Meaning.{LiveChunk, ChunkMap}
@@ -17,15 +16,16 @@ use Rattle.heap_model.specs.MemorySteps.{Of}
 use Rattle.heap_model.specs.Store.{owner_under, listed, databases, numbers_of, Accepted, store_of}
 use Rattle.heap_model.specs.Leaving.{rewritten}
 use Rattle.heap_model.specs.EntrySteps.{MakesNone, LeavesStore}
-use Rattle.laws_heap.proofs.KeptLoans.{keeps_itself, keeps_then}
+use Rattle.laws_heap.proofs.KeptLoans.{keeps_itself}
 use Rattle.laws_heap.proofs.Meanings.{held-zero}
 use Rattle.laws_store.proofs.Times.{same-yes, times-cons, times-some, times-contained}
 use Rattle.laws_store.proofs.Owners.{directory_owner}
 use Rattle.laws_store.proofs.Counts.{listed_numbers}
 use Rattle.laws_store.proofs.Edited.{shown}
-use Rattle.laws_store.proofs.CallSteps.{kept_then}
 use Rattle.laws_store.proofs.Numbered.{listed_number, number_held, owned_there}
+use Rattle.palm_store.specs.EntryCalls.{OnlyWrites}
 use Rattle.palm_store.specs.Files.{HasDataOf, data_filled}
+use Rattle.palm_store.proofs.Rests.{writes_then}
 use Rattle.palm_store.proofs.TwoSteps.{with_bytes, rewritten_here, rewritten_apart}
 use Rattle.pdb_files.specs.Filling.{HasBlock, zeros_for, AreFilled, AreOnce, Refills}
 
@@ -179,27 +179,24 @@ one_refilled old mid new names index bytes inside some before leaves unmoved =
 pub record IsFilling (start store : Memory) (blocks : List (Option (List ℕ))) (names : List ℕ) (index : ℕ) : Type 0 where
   pub filled : AreFilled (store_of store.bytes).map blocks names index
   pub refills : Refills start.bytes store.bytes names
-  pub loan : KeepsLoan start store
-  pub rest : store ≡ record start { bytes = store.bytes }
+  pub kept : OnlyWrites start store
 
 pub none_yet : (start : Memory) (blocks : List (Option (List ℕ))) (names : List ℕ) → Accepted start.bytes → AreFilled (store_of start.bytes).map blocks names 0 → IsFilling start start blocks names 0
-none_yet start blocks names a zeros = record { filled = zeros; refills = itself start.bytes names a; loan = keeps_itself start; rest = refl }
+none_yet start blocks names a zeros = record { filled = zeros; refills = itself start.bytes names a; kept = record { loan = keeps_itself start; rest = refl } }
 
 pub one_more : (start old new : Memory) (blocks : List (Option (List ℕ))) (names : List ℕ) (index : ℕ) (bytes : List ℕ) → AreOnce names → index < length names → get_or blocks index None ≡ Some bytes
-    → LeavesStore old.bytes new.bytes (data_filled (store_of old.bytes) (get_or names index 0) bytes) → MovesNothing old.bytes new.bytes → KeepsLoan old new → new ≡ record old { bytes = new.bytes } → IsFilling start old blocks names index → IsFilling start new blocks names (index + 1)
-one_more start old new blocks names index bytes once inside is leaves unmoved loan rest before =
+    → LeavesStore old.bytes new.bytes (data_filled (store_of old.bytes) (get_or names index 0) bytes) → MovesNothing old.bytes new.bytes → OnlyWrites old new → IsFilling start old blocks names index → IsFilling start new blocks names (index + 1)
+one_more start old new blocks names index bytes once inside is leaves unmoved kept before =
     let here : HasBlock (store_of old.bytes).map (zeros_for (Some bytes)) (named_at names index) = subst (λ (block : Option (List ℕ)). HasBlock (store_of old.bytes).map (zeros_for block) (named_at names index)) is (before.filled.zeros index (omega arith) inside) in
     record {
       filled = one_filled (store_of old.bytes).map (store_of new.bytes).map blocks names index bytes once inside is leaves.same.map before.filled;
       refills = one_refilled start.bytes old.bytes new.bytes names index bytes inside here.0 before.refills leaves unmoved;
-      loan = keeps_then start old new before.loan loan;
-      rest = kept_then start old new before.rest rest;
+      kept = writes_then start old new before.kept kept;
     }
 
 pub none_more : (start store : Memory) (blocks : List (Option (List ℕ))) (names : List ℕ) (index : ℕ) → index < length names → get_or blocks index None ≡ None → IsFilling start store blocks names index → IsFilling start store blocks names (index + 1)
 none_more start store blocks names index inside is before = record {
   filled = none_filled (store_of store.bytes).map blocks names index inside is before.filled;
   refills = before.refills;
-  loan = before.loan;
-  rest = before.rest;
+  kept = before.kept;
 }

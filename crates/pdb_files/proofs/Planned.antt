@@ -6,22 +6,22 @@ use Rattle.std.proofs.lemmas.List.{get_or_append_left, get_or-append_right}
 use Rattle.heap_model.specs.Database.{Entry, a_record, a_resource, is_deleted, resources_in, entry_count_in, entry_in}
 use Rattle.heap_model.specs.Files.{HasNoFault, blocks_in, idle_attributes}
 use Rattle.heap_model.specs.FileSteps.{size_of_block}
-use Rattle.palm_store.specs.declared.databases.whole.WholeEntry.{WholeEntry}
-use Rattle.palm_store.specs.declared.databases.whole.WholeEntry.TheVariants as whole
+use Rattle.palm_store.specs.WholeDatabases.{WholeEntry}
+use Rattle.palm_store.specs.declared.entries.infos.EntryInfo.TheVariants as infos
 use Rattle.pdb_format.proofs.WrittenFiles.{still_deleted}
 use Rattle.pdb_format.specs.ReadFiles.{HasIdsFor}
 use Rattle.pdb_files.specs.Plans.{IsPlannedAs, id_planned, IsPlannedOf, ArePlannedOf}
 use Rattle.pdb_format.proofs.FileBlocks.{none_planned, record_block, resource_block}
 
 pub record_planned : (file ids : List ℕ) (index attributes id at given idle : ℕ) (size : Option ℕ) → HasNoFault file → index < entry_count_in file → HasIdsFor file ids → a_record attributes id at ≡ entry_in file index → false ≡ resources_in file
-    → size ≡ size_of_block (get_or (blocks_in file) (2 + index) None) → idle ≡ idle_attributes attributes → given ≡ get_or ids index 0 → IsPlannedOf file ids index (whole.Record idle given size)
+    → size ≡ size_of_block (get_or (blocks_in file) (2 + index) None) → idle ≡ idle_attributes attributes → given ≡ get_or ids index 0 → IsPlannedOf file ids index (infos.Record idle given, size)
 record_planned file ids index attributes id at given idle size good inside have is kind sized clear gives =
     let count = have.count (sym kind) in
     let fit = have.fit index 0 (omega arith) in
     let some = fit.0 in
     let most = fit.1 in
     record {
-      planned = subst (λ (e : Entry ℕ). IsPlannedAs e (whole.Record idle given size)) is clear;
+      planned = subst (λ (e : Entry ℕ). IsPlannedAs e (infos.Record idle given, size)) is clear;
       size = sized;
       id = ap (λ (n : ℕ). Some n) gives ∙ ap (λ (r : Bool). id_planned r ids index) kind;
       can = (
@@ -42,13 +42,15 @@ pub resource_has_size : (file : List ℕ) (index kind id at : ℕ) (size : Optio
 resource_has_size file index kind id at size good inside is sized =
     some_size size (λ none. resource_block file index kind id at good inside is (none_planned file index (a_resource kind id at) inside is (sym sized ∙ none)))
 
-pub resource_planned : (file ids : List ℕ) (index kind id at bytes : ℕ) (size : Option ℕ) → a_resource kind id at ≡ entry_in file index → true ≡ resources_in file
-    → size ≡ size_of_block (get_or (blocks_in file) (2 + index) None) → size ≡ Some bytes → IsPlannedOf file ids index (whole.Resource kind id bytes)
-resource_planned file ids index kind id at bytes size is resources sized gives = record {
-  planned = subst (λ (e : Entry ℕ). IsPlannedAs e (whole.Resource kind id bytes)) is (refl, refl);
-  size = sym gives ∙ sized;
+pub resource_planned : (file ids : List ℕ) (index kind id at : ℕ) (size : Option ℕ)
+    → a_resource kind id at ≡ entry_in file index → true ≡ resources_in file
+    → size ≡ size_of_block (get_or (blocks_in file) (2 + index) None) → IsSome size
+    → IsPlannedOf file ids index (infos.Resource kind id, size)
+resource_planned file ids index kind id at size is resources sized some = record {
+  planned = subst (λ (e : Entry ℕ). IsPlannedAs e (infos.Resource kind id, size)) is (refl, refl);
+  size = sized;
   id = ap (λ (r : Bool). id_planned r ids index) resources;
-  can = sym resources;
+  can = (sym resources, some);
 }
 
 -- ---- one after the other

@@ -14,10 +14,9 @@ use Rattle.heap_model.specs.Files.{HaveIds, kept_ids, blocks_in}
 use Rattle.heap_model.specs.FileSteps.{size_of_block, block_sizes}
 use Rattle.heap_model.specs.declared.database.DbInfo.{DbInfo}
 use Rattle.laws_heap.proofs.Tests.{true_or_false}
-use Rattle.palm_store.specs.declared.databases.whole.WholeEntry.{WholeEntry}
-use Rattle.palm_store.specs.declared.databases.whole.WholeEntry.TheVariants as whole
+use Rattle.palm_store.specs.declared.entries.infos.EntryInfo.TheVariants as infos
 use Rattle.palm_store.specs.declared.databases.whole.BlockSizes.{BlockSizes}
-use Rattle.palm_store.specs.WholeDatabases.{size_of_data, data_sizes, CanCome, id_asked, CanBeWhole, header_asked}
+use Rattle.palm_store.specs.WholeDatabases.{WholeEntry, size_of_data, data_sizes, CanCome, id_asked, CanBeWhole, header_asked}
 use Rattle.pdb_format.specs.declared.blocks.Block.{Block}
 use Rattle.pdb_format.specs.Blocks.{size_within}
 use Rattle.pdb_format.specs.ReadFiles.{header_read}
@@ -85,7 +84,7 @@ sizes_at file ids sizes entries app sort are (suc (suc index)) inside =
     let many = are.long in
     let long = length-map entries size_of_data in
     let next : 2 + index ≡ suc (suc index) = omega arith in
-    let entry : WholeEntry = whole.Resource 0 0 0 in
+    let entry : WholeEntry = (infos.Resource 0 0, None) in
     get_or-map size_of_data entries index entry None (omega arith)
     ∙ (are.each index entry (omega arith)).size
     ∙ ap (λ (rank : ℕ). size_of_block (get_or (blocks_in file) rank None)) next

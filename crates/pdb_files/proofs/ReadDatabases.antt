@@ -7,7 +7,6 @@ use Rattle.std.proofs.lemmas.List.{length-map, get_or-map, ext_get_or, get_or_de
 use Rattle.std.proofs.lemmas.List.FromFn.{length-map-range_with_len}
 use Rattle.heap_model.specs.Chunk.{data_owner}
 use Rattle.heap_model.specs.Memory.{Memory}
-use Rattle.heap_model.specs.Lending.{KeepsLoan}
 use Rattle.heap_model.specs.Lists.{times}
 use Rattle.heap_model.specs.Meaning.{LiveChunk, ChunkMap}
 use Rattle.heap_model.specs.MemorySteps.{Of}
@@ -27,11 +26,9 @@ use Rattle.heap_model.specs.declared.call.Reply.TheVariants as replies
 use Rattle.heap_model.specs.declared.refusal.Refusal.{Refusal}
 use Rattle.heap_model.specs.declared.refusal.Refusal.TheVariants.{OutOfMemory}
 use Rattle.laws_store.proofs.CallSteps.{refused}
-use Rattle.palm_store.specs.declared.databases.whole.WholeEntry.{WholeEntry}
-use Rattle.palm_store.specs.declared.databases.whole.WholeEntry.TheVariants as whole
-use Rattle.palm_store.specs.EntryCalls.{LeavesChanged}
-use Rattle.palm_store.specs.WholeDatabases.{data_sizes, id_asked, entry_named, entries_named, whole_database, whole_size, RunsOut, IsGained, GainsZeros, MakesWhole, checks_of_whole}
-use Rattle.palm_store.proofs.Rests.{then_written}
+use Rattle.palm_store.specs.declared.entries.infos.EntryInfo.TheVariants as infos
+use Rattle.palm_store.specs.EntryCalls.{LeavesChanged, OnlySlides}
+use Rattle.palm_store.specs.WholeDatabases.{WholeEntry, data_sizes, id_asked, entry_named, entries_named, whole_database, whole_size, RunsOut, IsGained, GainsZeros, MakesWhole, checks_of_whole}
 use Rattle.palm_store.proofs.WholeSteps.{whole_data}
 use Rattle.pdb_files.specs.declared.importing.plan.Plan.{Plan}
 use Rattle.pdb_files.specs.Plans.{IsPlannedAs, IsPlan}
@@ -76,16 +73,16 @@ named bytes entries names = map (entry_with bytes) (entries_named entries names)
 
 ids_kept : (bytes : ℕ → Option (List ℕ)) (entries : List WholeEntry) (names : List ℕ) → filter_map unique_id (named bytes entries names) ≡ filter_map id_asked entries
 ids_kept bytes [] names = refl
-ids_kept bytes (whole.Record attributes id size ∷ entries) [] = ap (λ (ids : List ℕ). id ∷ ids) (ids_kept bytes entries [])
-ids_kept bytes (whole.Resource kind id size ∷ entries) [] = ids_kept bytes entries []
-ids_kept bytes (whole.Record attributes id size ∷ entries) (name ∷ names) = ap (λ (ids : List ℕ). id ∷ ids) (ids_kept bytes entries names)
-ids_kept bytes (whole.Resource kind id size ∷ entries) (name ∷ names) = ids_kept bytes entries names
+ids_kept bytes ((infos.Record attributes id, size) ∷ entries) [] = ap (λ (ids : List ℕ). id ∷ ids) (ids_kept bytes entries [])
+ids_kept bytes ((infos.Resource kind id, size) ∷ entries) [] = ids_kept bytes entries []
+ids_kept bytes ((infos.Record attributes id, size) ∷ entries) (name ∷ names) = ap (λ (ids : List ℕ). id ∷ ids) (ids_kept bytes entries names)
+ids_kept bytes ((infos.Resource kind id, size) ∷ entries) (name ∷ names) = ids_kept bytes entries names
 
 one_read : (bytes : ℕ → Option (List ℕ)) (entry : Entry ℕ) (one : WholeEntry) (name : ℕ) → IsPlannedAs entry one → IsReadAs entry (entry_with bytes (entry_named one name))
-one_read bytes (a_record attributes id at) (whole.Record other other_id size) name is = is
-one_read bytes (a_record attributes id at) (whole.Resource kind other_id size) name is = is
-one_read bytes (a_resource kind id at) (whole.Record other other_id size) name is = is
-one_read bytes (a_resource kind id at) (whole.Resource other other_id size) name is = is
+one_read bytes (a_record attributes id at) (infos.Record other other_id, size) name is = is
+one_read bytes (a_record attributes id at) (infos.Resource kind other_id, size) name is = is
+one_read bytes (a_resource kind id at) (infos.Record other other_id, size) name is = is
+one_read bytes (a_resource kind id at) (infos.Resource other other_id, size) name is = is
 
 all_read : (bytes : ℕ → Option (List ℕ)) (file_entries : List (Entry ℕ)) (entries : List WholeEntry) (names : List ℕ) → AllZip IsPlannedAs file_entries entries → AllZip IsReadAs file_entries (named bytes entries names)
 all_read bytes [] [] names are = tt
@@ -165,8 +162,8 @@ still_filled old mid new names still refills name live there locked stays =
 
 pub imported : (old mid new : Memory) (file : List ℕ) (db : Db) (plan : Plan) (names : List ℕ) → Accepted old.bytes → HasNoFault file → (IsTaken (store_of old.bytes) 0 (name_in file) → ⊥) → length (store_of old.bytes).databases < most_databases → IsPlan file plan
     → MakesWhole old.bytes mid.bytes db.0 plan.info plan.sizes plan.entries.items names → Refills mid.bytes new.bytes names → length names ≡ 2 + length plan.entries.items → AreFilled (store_of new.bytes).map (blocks_in file) names (length names)
-    → KeepsLoan old new → mid ≡ record old { bytes = mid.bytes; slid = mid.slid } → new ≡ record mid { bytes = new.bytes } → DoesInStore old (calls.File (Import file)) (replies.Database db) new
-imported old mid new file db plan names a good free few is makes refills many filled loan first second = record {
+    → OnlySlides old new → DoesInStore old (calls.File (Import file)) (replies.Database db) new
+imported old mid new file db plan names a good free few is makes refills many filled kept = record {
   before = a;
   step = (good_none file _ good (free, ((λ most. omega arith), (tt, (tt, tt)))), (makes.fresh, gains_read old.bytes mid.bytes new.bytes file db.0 plan names good is makes refills many filled));
   accepted = refills.accepted;
@@ -174,9 +171,9 @@ imported old mid new file db plan names a good free few is makes refills many fi
   tables = refills.tables ∙ makes.tables;
   directory = elim makes.directory [ inl stays ↦ inl (refills.directory ∙ stays) | inr begins ↦ inr (begins, tt) ];
   still = still_filled old.bytes mid.bytes new.bytes names makes.still refills;
-  loan = loan;
+  loan = kept.loan;
   asks = tt;
-  rest = then_written old mid new first second;
+  rest = kept.rest;
 }
 
 -- ---- what is refused
@@ -187,9 +184,9 @@ no_memory_left old file a good free few = refused old (calls.File (Import file))
 
 -- if there was no room, all is as before
 pub no_room_left : (old new : Memory) (file : List ℕ) (plan : Plan) (refusal : Refusal) → Accepted old.bytes → HasNoFault file → (IsTaken (store_of old.bytes) 0 (name_in file) → ⊥) → length (store_of old.bytes).databases < most_databases → IsPlan file plan
-    → FirstBrings (checks_of_whole old.bytes plan.info plan.sizes plan.entries.items) refusal → LeavesChanged old new (λ store. store) → StoreAsBefore old new → KeepsLoan old new → new ≡ record old { bytes = new.bytes; slid = new.slid }
+    → FirstBrings (checks_of_whole old.bytes plan.info plan.sizes plan.entries.items) refusal → LeavesChanged old new (λ store. store) → StoreAsBefore old new → OnlySlides old new
     → DoesInStore old (calls.File (Import file)) (replies.Refused refusal) new
-no_room_left old new file plan refusal a good free few is why leaves before loan rest = record {
+no_room_left old new file plan refusal a good free few is why leaves before kept = record {
   before = a;
   step = (good_brings file _ refusal good (lacking why), before);
   accepted = leaves.accepted;
@@ -197,9 +194,9 @@ no_room_left old new file plan refusal a good free few is why leaves before loan
   tables = leaves.tables;
   directory = inl leaves.directory;
   still = leaves.still;
-  loan = loan;
+  loan = kept.loan;
   asks = tt;
-  rest = rest;
+  rest = kept.rest;
 } where
   named_as : plan.info.name ≡ name_in file
   named_as = ap (λ (h : DatabaseHeader). h.name) is.header ∙ name_read file

@@ -26,9 +26,8 @@ use Rattle.heap_model.specs.declared.refusal.Refusal.TheVariants.{BadFile, TooMa
 use Rattle.laws_store.proofs.Numbered.{number_some}
 use Rattle.laws_store.proofs.Times.{map-All}
 use Rattle.laws_store.proofs.Found.{found_stands}
-use Rattle.palm_store.specs.declared.databases.whole.WholeEntry.{WholeEntry}
 use Rattle.palm_store.specs.declared.databases.whole.BlockSizes.{BlockSizes}
-use Rattle.palm_store.specs.WholeDatabases.{checks_of_whole}
+use Rattle.palm_store.specs.WholeDatabases.{WholeEntry, checks_of_whole}
 use Rattle.pdb_files.specs.Imports.{checks_in_front}
 
 -- ---- faults

@@ -8,9 +8,8 @@ use Rattle.heap_model.specs.Files.{HaveIds, idle_attributes, blocks_in}
 use Rattle.heap_model.specs.FileSteps.{size_of_block, block_sizes}
 use Rattle.pdb_format.specs.ReadFiles.{header_read}
 use Rattle.pdb_format.specs.declared.blocks.Block.{Block}
-use Rattle.palm_store.specs.declared.databases.whole.WholeEntry.{WholeEntry}
-use Rattle.palm_store.specs.declared.databases.whole.WholeEntry.TheVariants as whole
-use Rattle.palm_store.specs.WholeDatabases.{size_of_data, data_sizes, CanCome, id_asked, CanBeWhole, header_asked}
+use Rattle.palm_store.specs.declared.entries.infos.EntryInfo.TheVariants as infos
+use Rattle.palm_store.specs.WholeDatabases.{WholeEntry, size_of_data, data_sizes, CanCome, id_asked, CanBeWhole, header_asked}
 use Rattle.pdb_files.specs.declared.importing.plan.Plan.{Plan}
 
 -- a block is absent or has less than 4 GiB
@@ -22,10 +21,10 @@ IsShort (Some block) = block.end - block.start < 2 ^ 32
 
 -- an entry of a file is planned as this one, apart from a record's ID and the data
 abbrev pub IsPlannedAs : Entry ℕ → WholeEntry → Type 0
-IsPlannedAs (a_record attributes id at) (whole.Record other_attributes other_id size) = other_attributes ≡ idle_attributes attributes
-IsPlannedAs (a_record attributes id at) (whole.Resource other_kind other_id size) = ⊥
-IsPlannedAs (a_resource kind id at) (whole.Record other_attributes other_id size) = ⊥
-IsPlannedAs (a_resource kind id at) (whole.Resource other_kind other_id size) = (other_kind ≡ kind) × (other_id ≡ id)
+IsPlannedAs (a_record attributes id at) (infos.Record other_attributes other_id, size) = other_attributes ≡ idle_attributes attributes
+IsPlannedAs (a_record attributes id at) (infos.Resource other_kind other_id, size) = ⊥
+IsPlannedAs (a_resource kind id at) (infos.Record other_attributes other_id, size) = ⊥
+IsPlannedAs (a_resource kind id at) (infos.Resource other_kind other_id, size) = (other_kind ≡ kind) × (other_id ≡ id)
 
 -- the unique ID that is planned for the entry at an index, if it is a record
 abbrev pub id_planned : Bool → List ℕ → ℕ → Option ℕ

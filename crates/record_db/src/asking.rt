@@ -32,7 +32,7 @@ pub fn num_records(store: &Store, db: Db) -> Result<u32, Refusal>
 pub fn query(store: &Store, db: Db, index: u32) -> Result<Name, Refusal>
     ensures { DoesRecord store.now (RecordCall.Query db index) (name_or_refused result) store.now }
 {
-    Ok(find_live(store, db, index, Access::Read)?.data)
+    Ok(find_live(store, db, index, Access::Read)?.item.1)
 }
 
 /// Returns the attributes, the unique ID and the data name of a record. It may be deleted.
@@ -46,7 +46,7 @@ pub fn record_info(store: &Store, db: Db, index: u32) -> Result<RecordInfo, Refu
     ensures { DoesRecord store.now (RecordCall.Info db index)
         (reply_of (λ info. Reply.Record info) result) store.now }
 {
-    Ok(find_record(store, db, index, Access::Read)?.info)
+    Ok(find_record(store, db, index, Access::Read)?.item)
 }
 
 /// Returns the index of the record that has a unique ID. It may be deleted.

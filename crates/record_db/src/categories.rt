@@ -2,7 +2,6 @@
 //! them.
 
 ghost use Rattle.std.specs.Prelude.{◌≡◌, false, [], ◌∷◌, OnOk, OnErr, IfErr, IfSome, IfNone};
-ghost use Rattle.heap_model.specs.Lending.{KeepsLoan};
 ghost use Rattle.heap_model.specs.Store.{Accepted, store_of};
 ghost use Rattle.heap_model.specs.Refusals.{NoneHolds, FirstBrings};
 ghost use Rattle.heap_model.specs.EntrySteps.{MakesNone};
@@ -10,7 +9,7 @@ ghost use Rattle.heap_model.specs.Categories.{IsOf};
 ghost use Rattle.heap_model.specs.RecordSteps.{no_category, no_categories, HasLockedOf, category_deleted};
 ghost use Rattle.heap_model.specs.declared.call.RecordCall.{RecordCall};
 ghost use Rattle.palm_store.specs.Opened.{IsOpened};
-ghost use Rattle.palm_store.specs.EntryCalls.{entries_of_image, resources_of_image, LeavesChanged};
+ghost use Rattle.palm_store.specs.EntryCalls.{entries_of_image, resources_of_image, LeavesChanged, OnlyWrites};
 ghost use Rattle.palm_store.specs.Replies.{done_or_refused, number_or_refused};
 ghost use Rattle.palm_store.specs.Search.{IsFirst, NoneBehind};
 ghost use Rattle.record_db.specs.Checks.{DoesRecord};
@@ -137,8 +136,7 @@ fn delete_all_of(store: &mut Store, opened: OpenDatabase, category: u8)
         (λ before. category_deleted before opened.db category) }
     ensures opened { IsOpened store.new.bytes opened }
     ensures none_made { MakesNone store.old.bytes store.new.bytes }
-    ensures loan { KeepsLoan store.old store.new }
-    ensures rest { store.new ≡ record store.old { bytes = store.new.bytes } }
+    ensures kept { OnlyWrites store.old store.new }
 {
     let mut from = 0;
     while let Some(index) = next_of(store, opened, from, category) {

@@ -2,21 +2,22 @@
 
 ghost use Rattle.std.specs.Prelude.{◌≡◌, ◌<◌, false, Some, length, bit_or, OnErr};
 ghost use Rattle.heap_model.specs.Database.{a_record};
-ghost use Rattle.heap_model.specs.Lending.{KeepsLoan};
 ghost use Rattle.heap_model.specs.Store.{Accepted, store_of};
 ghost use Rattle.heap_model.specs.EntrySteps.{entry_under, entry_changed, with_attributes, MakesNone};
 ghost use Rattle.heap_model.specs.RecordSteps.{id_set};
 ghost use Rattle.heap_model.specs.declared.call.RecordCall.{RecordCall};
 ghost use Rattle.palm_store.specs.Opened.{IsOpened};
-ghost use Rattle.palm_store.specs.EntryCalls.{entries_of_image, resources_of_image, raised_if, LeavesChanged};
+ghost use Rattle.palm_store.specs.EntryCalls.{entries_of_image, resources_of_image, raised_if, LeavesChanged, OnlyWrites};
 ghost use Rattle.palm_store.specs.Replies.{done_or_refused, name_or_refused};
 ghost use Rattle.record_db.specs.Checks.{DoesRecord};
 
 use crate::attributes::{is_busy, marked, released, with_given};
-use crate::records::{LiveRecord, find_live, find_record, has_id, has_locked};
+use crate::records::{find_live, find_record, has_id, has_locked};
 use db_format::{GREATEST_ID, RecordAttrs};
-use heap_model::{Db, Name, Refusal};
-use palm_store::{Access, EntryInfo, EntryKind, Store, check_owner, is_locked, open_entries};
+use heap_model::{Db, Name, RecordInfo, Refusal};
+use palm_store::{
+    Access, EntryInfo, EntryKind, InDatabase, Store, check_owner, is_locked, open_entries,
+};
 
 /// Frees the data of a record. Its entry stays as that of a deleted record, with its ID.
 ///
@@ -32,7 +33,7 @@ pub fn delete(store: &mut Store, db: Db, index: u32) -> Result<(), Refusal>
     ensures refused { OnErr result (store.new ≡ store.old) }
 {
     let live = find_live(store, db, index, Access::Write)?;
-    if is_locked(store, live.data) {
+    if is_locked(store, live.item.1) {
         return Err(Refusal::ChunkLocked);
     }
     store.entry_free_data(live.opened, index, true);
@@ -70,7 +71,7 @@ pub fn remove(store: &mut Store, db: Db, index: u32) -> Result<(), Refusal>
     ensures refused { OnErr result (store.new ≡ store.old) }
 {
     let found = find_record(store, db, index, Access::Write)?;
-    if has_locked(store, found.info.data) {
+    if has_locked(store, found.item.data) {
         return Err(Refusal::ChunkLocked);
     }
     store.entry_drop(found.opened, index, None);
@@ -111,11 +112,11 @@ pub fn get(store: &mut Store, db: Db, index: u32) -> Result<Name, Refusal>
     ensures refused { OnErr result (store.new ≡ store.old) }
 {
     let live = find_live(store, db, index, Access::Read)?;
-    if is_busy(live.attributes) {
+    if is_busy(live.item.0.attributes) {
         return Err(Refusal::RecordBusy);
     }
     mark(store, index, live, RecordAttrs::BUSY, false);
-    Ok(live.data)
+    Ok(live.item.1)
 }
 
 /// Ends the use of a record: it is no longer busy. It is dirty if `dirty` is true.
@@ -131,8 +132,8 @@ pub fn release(store: &mut Store, db: Db, index: u32, dirty: bool) -> Result<(),
 {
     let found = find_record(store, db, index, Access::Read)?;
     let left = EntryInfo::Record {
-        attributes: released(found.info.attributes, dirty),
-        id: found.info.id,
+        attributes: released(found.item.attributes, dirty),
+        id: found.item.id,
     };
     store.entry_set(found.opened, index, left, false);
     Ok(())
@@ -156,7 +157,7 @@ pub fn detach(store: &mut Store, db: Db, index: u32, owner: u8) -> Result<Name, 
     let live = find_live(store, db, index, Access::Write)?;
     check_owner(owner)?;
     store.entry_drop(live.opened, index, Some(owner));
-    Ok(live.data)
+    Ok(live.item.1)
 }
 
 /// Sets the attributes of a record, except the deleted and the busy bit, and its unique ID. The new
@@ -180,12 +181,12 @@ pub fn set_record_info(
     ensures refused { OnErr result (store.new ≡ store.old) }
 {
     let found = find_record(store, db, index, Access::Write)?;
-    let id = id_or(id, found.info.id);
-    if id != found.info.id && has_id(store, found.opened, id) {
+    let id = id_or(id, found.item.id);
+    if id != found.item.id && has_id(store, found.opened, id) {
         return Err(Refusal::DuplicateId);
     }
     let given = EntryInfo::Record {
-        attributes: with_given(found.info.attributes, attributes),
+        attributes: with_given(found.item.attributes, attributes),
         id,
     };
     store.entry_set(found.opened, index, given, true);
@@ -195,24 +196,29 @@ pub fn set_record_info(
 /// Sets bits of the attributes of a record that has data. The database counts the call if `counts`
 /// is true.
 #[inline(always)]
-fn mark(store: &mut Store, index: u32, live: LiveRecord, bits: RecordAttrs, counts: bool)
+fn mark(
+    store: &mut Store,
+    index: u32,
+    live: InDatabase<(RecordInfo, Name)>,
+    bits: RecordAttrs,
+    counts: bool,
+)
     requires accepted { Accepted store.old.bytes }
     requires opened { IsOpened store.old.bytes live.opened }
     requires records { resources_of_image store.old.bytes live.opened.db ≡ false }
     requires inside { index < length (entries_of_image store.old.bytes live.opened.db) }
     requires is { entry_under (store_of store.old.bytes) live.opened.db index
-        ≡ Some (a_record live.attributes live.id live.«data».0) }
-    requires some { 0 < live.«data».0 }
+        ≡ Some (a_record live.item.0.attributes live.item.0.id live.item.1.0) }
+    requires some { 0 < live.item.1.0 }
     ensures marked { LeavesChanged store.old store.new
         (λ store. raised_if counts (entry_changed store live.opened.db index
         (with_attributes (λ attributes. bit_or attributes bits.0))) live.opened.db) }
     ensures none_made { MakesNone store.old.bytes store.new.bytes }
-    ensures loan { KeepsLoan store.old store.new }
-    ensures rest { store.new ≡ record store.old { bytes = store.new.bytes } }
+    ensures kept { OnlyWrites store.old store.new }
 {
     let marked = EntryInfo::Record {
-        attributes: marked(live.attributes, bits),
-        id: live.id,
+        attributes: marked(live.item.0.attributes, bits),
+        id: live.item.0.id,
     };
     store.entry_set(live.opened, index, marked, counts);
 }

@@ -9,7 +9,7 @@ use crate::attributes::{marked, of_attached_record};
 use crate::records::find_live;
 use db_format::RecordAttrs;
 use heap_model::{Db, Name, Refusal};
-use palm_store::{Access, EntryInfo, EntryKind, NewEntry, Store, check_owner, open_entries};
+use palm_store::{Access, EntryInfo, EntryKind, Store, check_owner, open_entries};
 
 /// Makes a caller's chunk the data of a new record at an index, and returns the record's index. If
 /// the index is above the count of records, the new record is the last. The chunk keeps its lock.
@@ -32,8 +32,9 @@ pub fn attach(store: &mut Store, db: Db, at: u32, name: Name) -> Result<u32, Ref
     let opened = open_entries(store, db, EntryKind::Records, Access::Write)?;
     store.check_given(name)?;
     let index = at.min(opened.entry_count);
-    let entry = NewEntry::Record {
+    let entry = EntryInfo::Record {
         attributes: of_attached_record(),
+        id: (),
     };
     store.entry_attach(opened, index, entry, name)?;
     Ok(index)
@@ -68,9 +69,9 @@ pub fn attach_replacing(
     store.check_given(name)?;
     check_owner(owner)?;
     let dirty = EntryInfo::Record {
-        attributes: marked(live.attributes, RecordAttrs::DIRTY),
-        id: live.id,
+        attributes: marked(live.item.0.attributes, RecordAttrs::DIRTY),
+        id: live.item.0.id,
     };
     store.entry_swap(live.opened, index, dirty, name, owner);
-    Ok(live.data)
+    Ok(live.item.1)
 }

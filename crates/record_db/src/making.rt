@@ -12,7 +12,7 @@ ghost use Rattle.record_db.specs.Checks.{DoesRecord};
 use crate::attributes::of_new_record;
 use crate::records::find_live;
 use heap_model::{Db, Name, Refusal};
-use palm_store::{Access, EntryKind, NewEntry, Store, open_entries};
+use palm_store::{Access, EntryInfo, EntryKind, Store, open_entries};
 
 /// Makes a record of `size` zero bytes at an index, and returns the record's index and the name of
 /// its data. If the index is above the count of records, the new record is the last. The record is
@@ -32,8 +32,9 @@ pub fn new_record(store: &mut Store, db: Db, at: u32, size: u32) -> Result<(u32,
 {
     let opened = open_entries(store, db, EntryKind::Records, Access::Write)?;
     let index = at.min(opened.entry_count);
-    let entry = NewEntry::Record {
+    let entry = EntryInfo::Record {
         attributes: of_new_record(),
+        id: (),
     };
     let name = store.entry_new(opened, index, entry, size)?;
     Ok((index, name))
@@ -63,7 +64,7 @@ pub fn resize_record(store: &mut Store, db: Db, index: u32, size: u32) -> Result
     ensures refused { OnErr result (store.new ≡ store.old) }
 {
     let live = find_live(store, db, index, Access::Write)?;
-    store.entry_resize(live.data, size)?;
+    store.entry_resize(live.item.1, size)?;
     let opened = store.opened_of(db);
     store.count_change(opened);
     Ok(())

@@ -1,38 +1,21 @@
 //! Records, by their indexes.
 
-ghost use Rattle.std.specs.Prelude.{◌≡◌, ◌<◌, ◌↔◌, false, Some, length, IsTrue, IsSomeAnd, IfSome, OnOk, IfOk, IfErr};
+ghost use Rattle.std.specs.Prelude.{◌≡◌, ◌<◌, ◌↔◌, false, Some, IsTrue, IsSomeAnd, IfSome, OnOk, IfOk, IfErr};
 ghost use Rattle.heap_model.specs.Database.{a_record};
 ghost use Rattle.heap_model.specs.Store.{Accepted, store_of};
 ghost use Rattle.heap_model.specs.Refusals.{NoneHolds, FirstBrings};
 ghost use Rattle.heap_model.specs.EntrySteps.{entry_under, HasId};
 ghost use Rattle.heap_model.specs.RecordSteps.{HasLockedOf};
-ghost use Rattle.palm_store.specs.Databases.{HasNumber};
 ghost use Rattle.palm_store.specs.Opened.{IsOpened};
 ghost use Rattle.palm_store.specs.EntryCalls.{entries_of_image, resources_of_image};
 ghost use Rattle.palm_store.specs.Search.{SomeHas};
-ghost use Rattle.palm_store.specs.Checks.{IsNamed, IsLockedChunk, finding_checks};
+ghost use Rattle.palm_store.specs.Checks.{IsNamed, IsLockedChunk, IsFoundAt, finding_checks};
 ghost use Rattle.record_db.specs.Checks.{IsRecordTold, living_checks};
 
 use crate::attributes::{has_category, is_deleted};
 use crate::search::find_id;
 use heap_model::{Db, Name, RecordInfo, Refusal};
-use palm_store::{Access, EntryKind, OpenDatabase, Store, find_entry, is_locked};
-
-/// A record, deleted or not, of an open database.
-#[derive(Clone, Copy)]
-pub(crate) struct FoundRecord {
-    pub(crate) opened: OpenDatabase,
-    pub(crate) info: RecordInfo,
-}
-
-/// A record of an open database that is not deleted, and so has data.
-#[derive(Clone, Copy)]
-pub(crate) struct LiveRecord {
-    pub(crate) opened: OpenDatabase,
-    pub(crate) attributes: u8,
-    pub(crate) id: u32,
-    pub(crate) data: Name,
-}
+use palm_store::{Access, EntryKind, InDatabase, OpenDatabase, Store, find_entry, is_locked};
 
 /// Finds the record at an index, deleted or not, in a database that allows this access.
 #[inline(always)]
@@ -41,56 +24,50 @@ pub(crate) fn find_record(
     db: Db,
     index: u32,
     access: Access,
-) -> Result<FoundRecord, Refusal>
+) -> Result<InDatabase<RecordInfo>, Refusal>
     ensures accepted { Accepted store.now.bytes }
-    ensures known { OnOk result (HasNumber store.now.bytes db.0) }
-    ensures records { OnOk result (resources_of_image store.now.bytes db ≡ false) }
-    ensures inside { OnOk result (index < length (entries_of_image store.now.bytes db)) }
-    ensures opened { IfOk result (λ found. IsOpened store.now.bytes found.opened) }
-    ensures db { IfOk result (λ found. found.opened.db ≡ db) }
-    ensures is { IfOk result (λ found. IsRecordTold store.now.bytes db index found.info) }
-    ensures passes { OnOk result (NoneHolds (finding_checks store.now.bytes db index EntryKind.Records access)) }
+    ensures found { IfOk result (λ found.
+        IsFoundAt store.now.bytes db index EntryKind.Records found.opened) }
+    ensures is { IfOk result (λ found. IsRecordTold store.now.bytes db index found.item) }
+    ensures passes { OnOk result
+        (NoneHolds (finding_checks store.now.bytes db index EntryKind.Records access)) }
     ensures refused { IfErr result
         (FirstBrings (finding_checks store.now.bytes db index EntryKind.Records access)) }
 {
     let found = find_entry(store, db, index, EntryKind::Records, access)?;
-    Ok(FoundRecord {
+    Ok(InDatabase {
         opened: found.opened,
-        info: found.entry.as_record().unwrap(),
+        item: found.item.as_record().unwrap(),
     })
 }
 
-/// Finds the record at an index that is not deleted, in a database that allows this access.
+/// Finds the record at an index that is not deleted, and the name of its data, in a database that
+/// allows this access.
 #[inline(always)]
 pub(crate) fn find_live(
     store: &Store,
     db: Db,
     index: u32,
     access: Access,
-) -> Result<LiveRecord, Refusal>
+) -> Result<InDatabase<(RecordInfo, Name)>, Refusal>
     ensures accepted { Accepted store.now.bytes }
-    ensures known { OnOk result (HasNumber store.now.bytes db.0) }
-    ensures records { OnOk result (resources_of_image store.now.bytes db ≡ false) }
-    ensures inside { OnOk result (index < length (entries_of_image store.now.bytes db)) }
-    ensures opened { IfOk result (λ live. IsOpened store.now.bytes live.opened) }
-    ensures db { IfOk result (λ live. live.opened.db ≡ db) }
+    ensures found { IfOk result (λ live.
+        IsFoundAt store.now.bytes db index EntryKind.Records live.opened) }
     ensures is { IfOk result (λ live.
         entry_under (store_of store.now.bytes) db index
-        ≡ Some (a_record live.attributes live.id live.«data».0)) }
-    ensures some { IfOk result (λ live. 0 < live.«data».0) }
+        ≡ Some (a_record live.item.0.attributes live.item.0.id live.item.1.0)) }
+    ensures some { IfOk result (λ live. 0 < live.item.1.0) }
     ensures passes { OnOk result (NoneHolds (living_checks store.now.bytes db index access)) }
     ensures refused { IfErr result
         (FirstBrings (living_checks store.now.bytes db index access)) }
 {
     let found = find_record(store, db, index, access)?;
-    if is_deleted(found.info.attributes) {
+    if is_deleted(found.item.attributes) {
         return Err(Refusal::RecordDeleted);
     }
-    Ok(LiveRecord {
+    Ok(InDatabase {
         opened: found.opened,
-        attributes: found.info.attributes,
-        id: found.info.id,
-        data: found.info.data.unwrap(),
+        item: (found.item, found.item.data.unwrap()),
     })
 }
 

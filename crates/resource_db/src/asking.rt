@@ -33,7 +33,7 @@ pub fn resource_info(store: &Store, db: Db, index: u32) -> Result<ResourceInfo, 
     ensures { DoesResource store.now (ResourceCall.Info db index)
         (reply_of (λ info. Reply.Resource info) result) store.now }
 {
-    Ok(resource_at(store, db, index, Access::Read)?.info)
+    Ok(resource_at(store, db, index, Access::Read)?.item)
 }
 
 /// Returns the index of the first resource of a type and an ID.

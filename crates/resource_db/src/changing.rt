@@ -26,7 +26,7 @@ pub fn detach_resource(store: &mut Store, db: Db, index: u32, owner: u8) -> Resu
     let resource = resource_at(store, db, index, Access::Write)?;
     check_owner(owner)?;
     store.entry_drop(resource.opened, index, Some(owner));
-    Ok(resource.info.data)
+    Ok(resource.item.data)
 }
 
 /// Removes a resource and frees its data.
@@ -43,7 +43,7 @@ pub fn remove_resource(store: &mut Store, db: Db, index: u32) -> Result<(), Refu
     ensures refused { OnErr result (store.new ≡ store.old) }
 {
     let resource = resource_at(store, db, index, Access::Write)?;
-    if is_locked(store, resource.info.data) {
+    if is_locked(store, resource.item.data) {
         return Err(Refusal::ChunkLocked);
     }
     store.entry_drop(resource.opened, index, None);

@@ -6,7 +6,7 @@ ghost use Rattle.palm_store.specs.Replies.{number_or_refused};
 ghost use Rattle.resource_db.specs.Resources.{DoesResource};
 
 use heap_model::{Db, Name, Refusal};
-use palm_store::{Access, EntryKind, NewEntry, Store, open_entries};
+use palm_store::{Access, EntryInfo, EntryKind, Store, open_entries};
 
 /// Makes a caller's chunk the data of a new resource after all others, and returns the resource's
 /// index. The chunk keeps its lock.
@@ -36,7 +36,7 @@ pub fn attach_resource(
     store.entry_attach(
         opened,
         opened.entry_count,
-        NewEntry::Resource { kind, id },
+        EntryInfo::Resource { kind, id },
         name,
     )?;
     Ok(opened.entry_count)

@@ -11,7 +11,7 @@ ghost use Rattle.resource_db.specs.Resources.{DoesResource};
 
 use crate::resources::resource_at;
 use heap_model::{Db, Name, Refusal};
-use palm_store::{Access, EntryKind, NewEntry, Store, open_entries};
+use palm_store::{Access, EntryInfo, EntryKind, Store, open_entries};
 
 /// Makes a resource of `size` zero bytes after all others, and returns the resource's index and the
 /// name of its data.
@@ -38,7 +38,7 @@ pub fn new_resource(
     let name = store.entry_new(
         opened,
         opened.entry_count,
-        NewEntry::Resource { kind, id },
+        EntryInfo::Resource { kind, id },
         size,
     )?;
     Ok((opened.entry_count, name))
@@ -67,7 +67,7 @@ pub fn resize_resource(store: &mut Store, db: Db, index: u32, size: u32) -> Resu
     ensures refused { OnErr result (store.new ≡ store.old) }
 {
     let resource = resource_at(store, db, index, Access::Write)?;
-    store.entry_resize(resource.info.data, size)?;
+    store.entry_resize(resource.item.data, size)?;
     let opened = store.opened_of(db);
     store.count_change(opened);
     Ok(())

@@ -1,24 +1,14 @@
 //! Resources, by their indexes.
 
-ghost use Rattle.std.specs.Prelude.{◌≡◌, ◌<◌, true, Some, length, OnOk, IfOk, IfErr};
+ghost use Rattle.std.specs.Prelude.{◌≡◌, ◌<◌, Some, OnOk, IfOk, IfErr};
 ghost use Rattle.heap_model.specs.Database.{a_resource};
 ghost use Rattle.heap_model.specs.Store.{Accepted, store_of};
 ghost use Rattle.heap_model.specs.Refusals.{NoneHolds, FirstBrings};
 ghost use Rattle.heap_model.specs.EntrySteps.{entry_under};
-ghost use Rattle.palm_store.specs.Databases.{HasNumber};
-ghost use Rattle.palm_store.specs.Opened.{IsOpened};
-ghost use Rattle.palm_store.specs.EntryCalls.{entries_of_image, resources_of_image};
-ghost use Rattle.palm_store.specs.Checks.{finding_checks};
+ghost use Rattle.palm_store.specs.Checks.{IsFoundAt, finding_checks};
 
 use heap_model::{Db, Refusal, ResourceInfo};
-use palm_store::{Access, EntryKind, OpenDatabase, Store, find_entry};
-
-/// A resource of an open database.
-#[derive(Clone, Copy)]
-pub(crate) struct FoundResource {
-    pub(crate) opened: OpenDatabase,
-    pub(crate) info: ResourceInfo,
-}
+use palm_store::{Access, EntryKind, InDatabase, Store, find_entry};
 
 /// Finds the resource at an index, in a database that allows this access. It has data.
 pub(crate) fn resource_at(
@@ -26,25 +16,22 @@ pub(crate) fn resource_at(
     db: Db,
     index: u32,
     access: Access,
-) -> Result<FoundResource, Refusal>
+) -> Result<InDatabase<ResourceInfo>, Refusal>
     ensures accepted { Accepted store.now.bytes }
-    ensures known { OnOk result (HasNumber store.now.bytes db.0) }
-    ensures resources { OnOk result (resources_of_image store.now.bytes db ≡ true) }
-    ensures inside { OnOk result (index < length (entries_of_image store.now.bytes db)) }
-    ensures opened { IfOk result (λ found. IsOpened store.now.bytes found.opened) }
-    ensures db { IfOk result (λ found. found.opened.db ≡ db) }
+    ensures found { IfOk result (λ found.
+        IsFoundAt store.now.bytes db index EntryKind.Resources found.opened) }
     ensures is { IfOk result (λ found.
         entry_under (store_of store.now.bytes) db index
-        ≡ Some (a_resource found.info.kind found.info.id found.info.«data».0)) }
-    ensures some { IfOk result (λ found. 0 < found.info.«data».0) }
+        ≡ Some (a_resource found.item.kind found.item.id found.item.«data».0)) }
+    ensures some { IfOk result (λ found. 0 < found.item.«data».0) }
     ensures passes { OnOk result
         (NoneHolds (finding_checks store.now.bytes db index EntryKind.Resources access)) }
     ensures refused { IfErr result
         (FirstBrings (finding_checks store.now.bytes db index EntryKind.Resources access)) }
 {
     let found = find_entry(store, db, index, EntryKind::Resources, access)?;
-    Ok(FoundResource {
+    Ok(InDatabase {
         opened: found.opened,
-        info: found.entry.as_resource().unwrap(),
+        item: found.item.as_resource().unwrap(),
     })
 }

@@ -1,7 +1,6 @@
 //! The info blocks of a database: chunks for data that its header names.
 
 ghost use Rattle.std.specs.Prelude.{◌≡◌, ◌<◌, ◌≤◌, length, OnOk, IfOk, IfErr};
-ghost use Rattle.heap_model.specs.Lending.{KeepsLoan};
 ghost use Rattle.heap_model.specs.DatabaseFields.{header_size};
 ghost use Rattle.heap_model.specs.Database.{database_in};
 ghost use Rattle.heap_model.specs.DatabaseSteps.{info_block, info_block_set, info_block_taken};
@@ -9,36 +8,34 @@ ghost use Rattle.heap_model.specs.Refusals.{NoneHolds, FirstBrings};
 ghost use Rattle.heap_model.specs.EntrySteps.{raised, LeavesStore, MakesNone};
 ghost use Rattle.heap_model.specs.Store.{Accepted, store_of};
 ghost use Rattle.palm_store.specs.Databases.{HasNumber};
+ghost use Rattle.database_edits.specs.Kept.{OnlyWrites};
 ghost use Rattle.palm_store.specs.EntryCalls.{MayBeGiven};
 ghost use Rattle.palm_store.specs.EntryInfos.{MayOwn};
 ghost use Rattle.palm_store.specs.Opened.{IsOpened};
 ghost use Rattle.palm_store.specs.InfoBlocks.{block_of_image, writing_checks};
 
+use crate::entries::InDatabase;
 use crate::lookup::{find_opened, header_in};
 use database_edits::{OpenDatabase, write_block};
 use db_format::{DbAttrs, app_info, attributes, sort_info};
 use heap_model::{Db, Name, Refusal, Which};
 use mem_manager::{DATA_OWNER, Heap};
 
-/// An open database, and an info block as it names it.
-#[derive(Clone, Copy)]
-pub(crate) struct FoundBlock {
-    pub(crate) opened: OpenDatabase,
-    /// The name of the block, or `Name(0)` if there is none.
-    pub(crate) name: Name,
-}
-
-/// Finds an info block of a database that may be written.
+/// Finds an info block of a database that may be written. The name is `Name(0)` if there is none.
 ///
 /// # Errors
 /// - `NoSuchDatabase`: if no database has the number.
 /// - `ReadOnly`: if the database is read-only.
-pub(crate) fn find_writable_block(heap: &Heap, db: Db, which: Which) -> Result<FoundBlock, Refusal>
+pub(crate) fn find_writable_block(
+    heap: &Heap,
+    db: Db,
+    which: Which,
+) -> Result<InDatabase<Name>, Refusal>
     requires accepted { Accepted heap.now.bytes }
     ensures known { OnOk result (HasNumber heap.now.bytes db.0) }
     ensures opened { IfOk result (λ found. IsOpened heap.now.bytes found.opened) }
     ensures db { IfOk result (λ found. found.opened.db ≡ db) }
-    ensures is { IfOk result (λ found. found.name.0 ≡ block_of_image heap.now.bytes db which) }
+    ensures is { IfOk result (λ found. found.item.0 ≡ block_of_image heap.now.bytes db which) }
     ensures passes { OnOk result (NoneHolds (writing_checks heap.now.bytes db)) }
     ensures refused { IfErr result (FirstBrings (writing_checks heap.now.bytes db)) }
 {
@@ -47,9 +44,9 @@ pub(crate) fn find_writable_block(heap: &Heap, db: Db, which: Which) -> Result<F
     if DbAttrs(attributes(header)).is_read_only() {
         return Err(Refusal::ReadOnly);
     }
-    Ok(FoundBlock {
+    Ok(InDatabase {
         opened,
-        name: Name(block_in(header, which)),
+        item: Name(block_in(header, which)),
     })
 }
 
@@ -74,8 +71,7 @@ pub(crate) fn give_block(heap: &mut Heap, opened: OpenDatabase, which: Which, na
     ensures given { LeavesStore heap.old.bytes heap.new.bytes
         (raised (info_block_set (store_of heap.old.bytes) opened.db which name.0) opened.db) }
     ensures none_made { MakesNone heap.old.bytes heap.new.bytes }
-    ensures loan { KeepsLoan heap.old heap.new }
-    ensures rest { heap.new ≡ record heap.old { bytes = heap.new.bytes } }
+    ensures kept { OnlyWrites heap.old heap.new }
 {
     write_block(heap, opened, which, name.0);
     heap.sys_set_owner(name, DATA_OWNER);
@@ -83,19 +79,18 @@ pub(crate) fn give_block(heap: &mut Heap, opened: OpenDatabase, which: Which, na
 
 /// Takes an info block from a database, and gives its chunk to an owner. The chunk keeps its locks.
 /// The database counts the call.
-pub(crate) fn take_block(heap: &mut Heap, found: FoundBlock, which: Which, owner: u8)
+pub(crate) fn take_block(heap: &mut Heap, found: InDatabase<Name>, which: Which, owner: u8)
     requires accepted { Accepted heap.old.bytes }
     requires opened { IsOpened heap.old.bytes found.opened }
-    requires is { found.name.0 ≡ block_of_image heap.old.bytes found.opened.db which }
+    requires is { found.item.0 ≡ block_of_image heap.old.bytes found.opened.db which }
     requires there { 0 < block_of_image heap.old.bytes found.opened.db which }
     requires owner { MayOwn owner }
     ensures taken { LeavesStore heap.old.bytes heap.new.bytes
         (raised (info_block_taken (store_of heap.old.bytes) found.opened.db which owner)
         found.opened.db) }
     ensures none_made { MakesNone heap.old.bytes heap.new.bytes }
-    ensures loan { KeepsLoan heap.old heap.new }
-    ensures rest { heap.new ≡ record heap.old { bytes = heap.new.bytes } }
+    ensures kept { OnlyWrites heap.old heap.new }
 {
     write_block(heap, found.opened, which, 0);
-    heap.sys_set_owner(found.name, owner);
+    heap.sys_set_owner(found.item, owner);
 }

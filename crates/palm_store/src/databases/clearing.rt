@@ -1,7 +1,8 @@
 //! The chunks that a database names: whether one is locked or lent, and all of them freed.
 
 ghost use Rattle.std.specs.Prelude.{◌≡◌, ◌<◌, ◌↔◌, length, slice_index, IsTrue, Any};
-ghost use Rattle.heap_model.specs.Lending.{IsLent, KeepsLoan};
+ghost use Rattle.heap_model.specs.Lending.{IsLent};
+ghost use Rattle.database_edits.specs.Kept.{OnlyWrites};
 ghost use Rattle.heap_model.specs.Heap.{HeapAccepted};
 ghost use Rattle.heap_model.specs.Reading.{held};
 ghost use Rattle.heap_model.specs.Maps.{callers_map};
@@ -117,8 +118,7 @@ pub(crate) fn free_data(heap: &mut Heap, opened: OpenDatabase)
     ensures leaves { Leaves heap.old.bytes heap.new.bytes
         (all_gone (held heap.old.bytes) (named_under heap.old.bytes opened.db.0)) }
     ensures stands { StandsAs heap.new.bytes opened.db.0 opened.chunk }
-    ensures loan { KeepsLoan heap.old heap.new }
-    ensures rest { heap.new ≡ record heap.old { bytes = heap.new.bytes } }
+    ensures kept { OnlyWrites heap.old heap.new }
 {
     let count = slot_count(header_in(heap, opened));
     for index in 0..count {

@@ -3,7 +3,7 @@
 
 ghost use Rattle.std.specs.Prelude.{◌≡◌, ◌+◌, ◌≤◌, ◌++◌, [], ◌∷◌, ℕ, List, length, take, drop, replicate, IfOk, IfErr, OnOk, OnErr, All, ◌*◌};
 ghost use Rattle.std.specs.List.{flat_map};
-ghost use Rattle.heap_model.specs.Lending.{KeepsLoan};
+ghost use Rattle.database_edits.specs.Kept.{OnlyWrites, OnlySlides};
 ghost use Rattle.heap_model.specs.Chunk.{managers_owner};
 ghost use Rattle.heap_model.specs.Heap.{HeapAccepted};
 ghost use Rattle.heap_model.specs.Reading.{held};
@@ -19,7 +19,8 @@ ghost use Rattle.palm_store.specs.WholeDatabases.{data_sizes, numbers_in, RunsOu
 
 use crate::databases::creating::list_last;
 use crate::databases::gaining::{free_named, make_data};
-use crate::databases::whole::{BlockSizes, WholeEntry, named_entry, named_header};
+use crate::databases::whole::{BlockSizes, named_entry, named_header};
+use crate::entries::EntryInfo;
 use bitflags::Flags;
 use db_format::{DbAttrs, INFO_BLOCKS, NameField, entry_offset};
 use heap_model::{DbInfo, Name, Refusal};
@@ -33,7 +34,7 @@ fn make_data_and_list(
     heap: &mut Heap,
     slot: Name,
     blocks: BlockSizes,
-    entries: &[WholeEntry],
+    entries: &[(EntryInfo, Option<u32>)],
     names: &mut [Name],
 ) -> Result<(), Refusal>
     requires heap { HeapAccepted heap.old.bytes }
@@ -47,8 +48,7 @@ fn make_data_and_list(
         (makings (data_sizes blocks entries.now) ++ listing_part heap.old.bytes ∷ [])) }
     ensures refusal { IfErr result (λ refusal. refusal ≡ Refusal.NotEnoughSpace) }
     ensures refused { OnErr result (Leaves heap.old.bytes heap.new.bytes (held heap.old.bytes)) }
-    ensures loan { KeepsLoan heap.old heap.new }
-    ensures rest { heap.new ≡ record heap.old { bytes = heap.new.bytes; slid = heap.new.slid } }
+    ensures kept { OnlySlides heap.old heap.new }
 {
     make_data(heap, blocks, entries, names)?;
     if let Err(refusal) = list_last(heap, slot) {
@@ -67,7 +67,7 @@ pub(crate) fn list_whole(
     heap: &mut Heap,
     size: u32,
     blocks: BlockSizes,
-    entries: &[WholeEntry],
+    entries: &[(EntryInfo, Option<u32>)],
     names: &mut [Name],
 ) -> Result<Name, Refusal>
     requires accepted { Accepted heap.old.bytes }
@@ -80,8 +80,7 @@ pub(crate) fn list_whole(
         (whole_parts heap.old.bytes size (data_sizes blocks entries.now))) }
     ensures refusal { IfErr result (λ refusal. refusal ≡ Refusal.NotEnoughSpace) }
     ensures refused { OnErr result (Leaves heap.old.bytes heap.new.bytes (held heap.old.bytes)) }
-    ensures loan { KeepsLoan heap.old heap.new }
-    ensures rest { heap.new ≡ record heap.old { bytes = heap.new.bytes; slid = heap.new.slid } }
+    ensures kept { OnlySlides heap.old heap.new }
 {
     let slot = heap.sys_new(size, MANAGERS_OWNER)?;
     if let Err(refusal) = make_data_and_list(heap, slot, blocks, entries, names) {
@@ -99,7 +98,7 @@ fn write_entries(
     slot: Name,
     chunk: Found,
     resources: bool,
-    entries: &[WholeEntry],
+    entries: &[(EntryInfo, Option<u32>)],
     names: &[Name],
 )
     requires stands { StandsAs heap.old.bytes slot.0 chunk }
@@ -115,8 +114,7 @@ fn write_entries(
         ++ flat_map entry_bytes (entries_named entries.now (drop 2 (numbers_in names.now))))) }
     ensures fits { All (EntryFits resources)
         (entries_named entries.now (drop 2 (numbers_in names.now))) }
-    ensures loan { KeepsLoan heap.old heap.new }
-    ensures rest { heap.new ≡ record heap.old { bytes = heap.new.bytes } }
+    ensures kept { OnlyWrites heap.old heap.new }
 {
     for index in 0..entries.len() {
         let entry = named_entry(entries[index], names[index + INFO_BLOCKS], resources);
@@ -131,7 +129,7 @@ pub(crate) fn write_whole(
     heap: &mut Heap,
     slot: Name,
     info: &DbInfo,
-    entries: &[WholeEntry],
+    entries: &[(EntryInfo, Option<u32>)],
     names: &[Name],
 )
     requires heap { HeapAccepted heap.old.bytes }
@@ -142,8 +140,7 @@ pub(crate) fn write_whole(
     ensures written { Leaves heap.old.bytes heap.new.bytes (rewritten (held heap.old.bytes) slot.0
         (spelled (whole_database info.now entries.now (numbers_in names.now)))) }
     ensures fits { DatabaseFits (whole_database info.now entries.now (numbers_in names.now)) }
-    ensures loan { KeepsLoan heap.old heap.new }
-    ensures rest { heap.new ≡ record heap.old { bytes = heap.new.bytes } }
+    ensures kept { OnlyWrites heap.old heap.new }
 {
     let name = NameField::of_name(info.name.as_slice()).unwrap();
     let header = named_header(info, name, names[0], names[1]);

@@ -1,7 +1,7 @@
 //! A new database: its slot in the directory, and its header.
 
 ghost use Rattle.std.specs.Prelude.{◌≡◌, ◌<◌, ◌≤◌, ◌+◌, ◌⊎◌, length, replicate, IfOk, IfErr, OnOk, OnErr, ◌*◌};
-ghost use Rattle.heap_model.specs.Lending.{KeepsLoan};
+ghost use Rattle.database_edits.specs.Kept.{OnlySlides};
 ghost use Rattle.heap_model.specs.Bytes.{u32_bytes};
 ghost use Rattle.heap_model.specs.Chunk.{need};
 ghost use Rattle.heap_model.specs.Heap.{HeapAccepted, directory_of};
@@ -43,8 +43,7 @@ fn begin_directory(heap: &mut Heap, slot: Name) -> Result<(), Refusal>
     ensures no_room { OnErr result (HasNoRoomFor heap.old.bytes DIRECTORY_WORD_SIZE) }
     ensures refusal { IfErr result (λ refusal. refusal ≡ Refusal.NotEnoughSpace) }
     ensures refused { OnErr result (heap.new ≡ heap.old) }
-    ensures loan { KeepsLoan heap.old heap.new }
-    ensures rest { heap.new ≡ record heap.old { bytes = heap.new.bytes; slid = heap.new.slid } }
+    ensures kept { OnlySlides heap.old heap.new }
 {
     let directory = heap.sys_new(DIRECTORY_WORD_SIZE as u32, MANAGERS_OWNER)?;
     let chunk = heap.sys_find(directory);
@@ -66,8 +65,7 @@ fn extend_directory(heap: &mut Heap, slot: Name) -> Result<(), Refusal>
         (need (length (directory_bytes heap.old.bytes) + DIRECTORY_WORD_SIZE))) }
     ensures refusal { IfErr result (λ refusal. refusal ≡ Refusal.NotEnoughSpace) }
     ensures refused { OnErr result (heap.new ≡ heap.old) }
-    ensures loan { KeepsLoan heap.old heap.new }
-    ensures rest { heap.new ≡ record heap.old { bytes = heap.new.bytes; slid = heap.new.slid } }
+    ensures kept { OnlySlides heap.old heap.new }
 {
     let directory = heap.directory();
     let chunk = heap.sys_find(directory);
@@ -89,8 +87,7 @@ pub(crate) fn list_last(heap: &mut Heap, slot: Name) -> Result<(), Refusal>
     ensures no_room { OnErr result (HasNoRoomToList heap.old.bytes) }
     ensures refusal { IfErr result (λ refusal. refusal ≡ Refusal.NotEnoughSpace) }
     ensures refused { OnErr result (heap.new ≡ heap.old) }
-    ensures loan { KeepsLoan heap.old heap.new }
-    ensures rest { heap.new ≡ record heap.old { bytes = heap.new.bytes; slid = heap.new.slid } }
+    ensures kept { OnlySlides heap.old heap.new }
 {
     if heap.directory().0 == 0 {
         begin_directory(heap, slot)
@@ -111,8 +108,7 @@ pub(crate) fn list_new(heap: &mut Heap) -> Result<Name, Refusal>
         ⊎ Stuck (rooms heap.old.bytes) (create_parts heap.old.bytes)) }
     ensures refusal { IfErr result (λ refusal. refusal ≡ Refusal.NotEnoughSpace) }
     ensures refused { OnErr result (Leaves heap.old.bytes heap.new.bytes (held heap.old.bytes)) }
-    ensures loan { KeepsLoan heap.old heap.new }
-    ensures rest { heap.new ≡ record heap.old { bytes = heap.new.bytes; slid = heap.new.slid } }
+    ensures kept { OnlySlides heap.old heap.new }
 {
     let slot = heap.sys_new(DATABASE_HEADER_SIZE as u32, MANAGERS_OWNER)?;
     if let Err(refusal) = list_last(heap, slot) {

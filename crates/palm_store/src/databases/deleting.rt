@@ -1,7 +1,7 @@
 //! A deleted database: its slot in the directory.
 
 ghost use Rattle.std.specs.Prelude.{◌≡◌, ◌<◌, ◌≤◌, ◌+◌, ◌*◌, length};
-ghost use Rattle.heap_model.specs.Lending.{KeepsLoan};
+ghost use Rattle.database_edits.specs.Kept.{OnlySlides};
 ghost use Rattle.heap_model.specs.Heap.{HeapAccepted, directory_of};
 ghost use Rattle.heap_model.specs.Store.{directory_bytes, listed_size, most_databases};
 ghost use Rattle.palm_store.specs.Directory.{Unlists};
@@ -17,8 +17,7 @@ pub(crate) fn unlist(heap: &mut Heap, index: u32)
     requires few { length (directory_bytes heap.old.bytes) ≤ listed_size * most_databases }
     requires inside { DIRECTORY_WORD_SIZE * index + DIRECTORY_WORD_SIZE ≤ length (directory_bytes heap.old.bytes) }
     ensures unlists { Unlists heap.old.bytes heap.new.bytes index }
-    ensures loan { KeepsLoan heap.old heap.new }
-    ensures rest { heap.new ≡ record heap.old { bytes = heap.new.bytes; slid = heap.new.slid } }
+    ensures kept { OnlySlides heap.old heap.new }
 {
     let directory = heap.directory();
     let chunk = heap.sys_find(directory);

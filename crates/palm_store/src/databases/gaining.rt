@@ -1,7 +1,7 @@
 //! Chunks of zeros for the data of a new database, made one after the other.
 
 ghost use Rattle.std.specs.Prelude.{◌≡◌, ◌+◌, [], ◌∷◌, length, IfOk, IfErr, OnOk, OnErr};
-ghost use Rattle.heap_model.specs.Lending.{KeepsLoan};
+ghost use Rattle.database_edits.specs.Kept.{OnlyWrites, OnlySlides};
 ghost use Rattle.heap_model.specs.Heap.{HeapAccepted};
 ghost use Rattle.heap_model.specs.Reading.{held};
 ghost use Rattle.heap_model.specs.Leaving.{Leaves};
@@ -10,7 +10,8 @@ ghost use Rattle.heap_model.specs.FileSteps.{makings};
 ghost use Rattle.palm_store.specs.WholeDatabases.{data_sizes, numbers_in, RunsOut, MakesAll, AreOwnChunks};
 
 use crate::chunks::free_chunk_of;
-use crate::databases::whole::{BlockSizes, WholeEntry, size_at};
+use crate::databases::whole::{BlockSizes, size_at};
+use crate::entries::EntryInfo;
 use heap_model::{Name, Refusal};
 use mem_manager::{DATA_OWNER, Heap};
 
@@ -27,8 +28,7 @@ fn make_sized(heap: &mut Heap, size: Option<u32>) -> Result<Name, Refusal>
         (RunsOut heap.old.bytes (length (makings (size ∷ []))) (makings (size ∷ []))) }
     ensures refusal { IfErr result (λ refusal. refusal ≡ Refusal.NotEnoughSpace) }
     ensures refused { OnErr result (heap.new ≡ heap.old) }
-    ensures loan { KeepsLoan heap.old heap.new }
-    ensures rest { heap.new ≡ record heap.old { bytes = heap.new.bytes; slid = heap.new.slid } }
+    ensures kept { OnlySlides heap.old heap.new }
 {
     match size {
         Some(size) => heap.sys_new(size, DATA_OWNER),
@@ -42,8 +42,7 @@ pub(crate) fn free_named(heap: &mut Heap, names: &[Name])
     requires own { AreOwnChunks heap.old.bytes (numbers_in names.now) }
     ensures leaves { Leaves heap.old.bytes heap.new.bytes
         (all_gone (held heap.old.bytes) (numbers_in names.now)) }
-    ensures loan { KeepsLoan heap.old heap.new }
-    ensures rest { heap.new ≡ record heap.old { bytes = heap.new.bytes } }
+    ensures kept { OnlyWrites heap.old heap.new }
 {
     for index in 0..names.len() {
         free_chunk_of(heap, names[index]);
@@ -58,7 +57,7 @@ pub(crate) fn free_named(heap: &mut Heap, names: &[Name])
 pub(crate) fn make_data(
     heap: &mut Heap,
     blocks: BlockSizes,
-    entries: &[WholeEntry],
+    entries: &[(EntryInfo, Option<u32>)],
     names: &mut [Name],
 ) -> Result<(), Refusal>
     requires heap { HeapAccepted heap.old.bytes }
@@ -71,8 +70,7 @@ pub(crate) fn make_data(
         (makings (data_sizes blocks entries.now))) }
     ensures refusal { IfErr result (λ refusal. refusal ≡ Refusal.NotEnoughSpace) }
     ensures refused { OnErr result (Leaves heap.old.bytes heap.new.bytes (held heap.old.bytes)) }
-    ensures loan { KeepsLoan heap.old heap.new }
-    ensures rest { heap.new ≡ record heap.old { bytes = heap.new.bytes; slid = heap.new.slid } }
+    ensures kept { OnlySlides heap.old heap.new }
 {
     for index in 0..names.len() {
         match make_sized(heap, size_at(blocks, entries, index)) {

@@ -4,30 +4,14 @@ ghost use Rattle.std.specs.Prelude.{◌≡◌, ◌+◌, ◌<◌, None, length, s
 ghost use Rattle.heap_model.specs.Database.{EntryFits};
 ghost use Rattle.db_format.specs.EitherEntry.{entry_of, HasFittingId};
 ghost use Rattle.db_format.specs.Headers.{header_values};
-ghost use Rattle.palm_store.specs.WholeDatabases.{size_of_data, data_sizes, CanCome, header_asked, entry_named};
+ghost use Rattle.palm_store.specs.WholeDatabases.{data_sizes, CanCome, header_asked, entry_named};
 
+use crate::entries::EntryInfo;
 use bitflags::Flags;
 use db_format::{
     DbEntry, DbHeader, INFO_BLOCKS, NameField, RecordAttrs, RecordEntry, ResourceEntry,
 };
 use heap_model::{DbInfo, Name};
-
-/// An entry of a new database, with the size of its data.
-#[derive(Clone, Copy)]
-pub enum WholeEntry {
-    /// The unique ID is 1 to 0xFFFFFF. A record without data is a deleted one.
-    Record {
-        attributes: u8,
-        id: u32,
-        size: Option<u32>,
-    },
-    /// The type is its four bytes as a number.
-    Resource {
-        kind: u32,
-        id: u16,
-        size: u32,
-    },
-}
 
 /// The sizes in bytes of the info blocks of a new database, if they are to exist.
 #[derive(Clone, Copy)]
@@ -36,43 +20,37 @@ pub struct BlockSizes {
     pub sort_info: Option<u32>,
 }
 
-/// Returns the size of the data of an entry in bytes, if it is to have any.
-fn size_of(entry: WholeEntry) -> Option<u32>
-    ensures { result ≡ size_of_data entry }
-{
-    match entry {
-        WholeEntry::Record { size, .. } => size,
-        WholeEntry::Resource { size, .. } => Some(size),
-    }
-}
-
 /// Returns the size at an index among the data of a database: the AppInfo block, the SortInfo
 /// block, and then the entries.
-pub(crate) fn size_at(blocks: BlockSizes, entries: &[WholeEntry], index: usize) -> Option<u32>
+pub(crate) fn size_at(
+    blocks: BlockSizes,
+    entries: &[(EntryInfo, Option<u32>)],
+    index: usize,
+) -> Option<u32>
     requires inside { index < 2 + length entries.now }
     ensures { result ≡ slice_index_or (data_sizes blocks entries.now) index None }
 {
     match index {
         0 => blocks.app_info,
         1 => blocks.sort_info,
-        _ => size_of(entries[index - INFO_BLOCKS]),
+        _ => entries[index - INFO_BLOCKS].1,
     }
 }
 
 /// Returns the given entry, with its data under a name.
-pub(crate) fn named_entry(entry: WholeEntry, name: Name, resources: bool) -> DbEntry
+pub(crate) fn named_entry(entry: (EntryInfo, Option<u32>), name: Name, resources: bool) -> DbEntry
     requires { CanCome resources entry }
     ensures is { entry_of result ≡ entry_named entry name.0 }
     ensures id { HasFittingId result }
     ensures fits { EntryFits resources (entry_of result) }
 {
-    match entry {
-        WholeEntry::Record { attributes, id, .. } => DbEntry::Record(RecordEntry {
+    match entry.0 {
+        EntryInfo::Record { attributes, id } => DbEntry::Record(RecordEntry {
             attributes: RecordAttrs::from_bits_retain(attributes),
             id,
             slot: name.0,
         }),
-        WholeEntry::Resource { kind, id, .. } => DbEntry::Resource(ResourceEntry {
+        EntryInfo::Resource { kind, id } => DbEntry::Resource(ResourceEntry {
             kind,
             id,
             slot: name.0,

@@ -1,33 +1,20 @@
 //! The information on entries that callers give and get.
 
 use database_edits::OpenDatabase;
-use db_format::DbAttrs;
-use heap_model::Entry;
 
-/// The database and the entry that a look-up by index finds.
+/// An item that was found in a database, such as an entry, and the open database.
 #[derive(Clone, Copy)]
-pub struct FoundEntry {
+pub struct InDatabase<T> {
     pub opened: OpenDatabase,
-    /// The attributes of the database.
-    pub attributes: DbAttrs,
-    /// The fields of the entry at the index, if there is one.
-    pub entry: Option<Entry>,
+    pub item: T,
 }
 
-/// The fields of an entry except for its data.
+/// The fields of an entry except for its data. If the entry is new, a record has no ID yet, and
+/// gets it from the seed of the database: the fields are an `EntryInfo<()>`.
 #[derive(Clone, Copy)]
-pub enum EntryInfo {
+pub enum EntryInfo<Id = u32> {
     /// The unique ID is 1 to 0xFFFFFF.
-    Record { attributes: u8, id: u32 },
-    /// The type is its four bytes as a number.
-    Resource { kind: u32, id: u16 },
-}
-
-/// The fields of a new entry that a caller gives. A record gets its ID from the seed of the
-/// database.
-#[derive(Clone, Copy)]
-pub enum NewEntry {
-    Record { attributes: u8 },
+    Record { attributes: u8, id: Id },
     /// The type is its four bytes as a number.
     Resource { kind: u32, id: u16 },
 }

@@ -1,7 +1,6 @@
 //! Entries that are made.
 
 ghost use Rattle.std.specs.Prelude.{◌≡◌, ◌⊎◌, ℕ, ◌<◌, ◌≤◌, [], ◌∷◌, length, IfOk, OnOk, OnErr, IfErr};
-ghost use Rattle.heap_model.specs.Lending.{KeepsLoan};
 ghost use Rattle.heap_model.specs.Reading.{held};
 ghost use Rattle.heap_model.specs.Space.{free_slots, rooms};
 ghost use Rattle.heap_model.specs.Rooms.{making, Stuck};
@@ -12,11 +11,12 @@ ghost use Rattle.heap_model.specs.EntrySteps.{entry_growth, most_entries, MakesN
 ghost use Rattle.db_format.specs.EitherEntry.{entry_of, is_resource, HasFittingId};
 ghost use Rattle.palm_store.specs.Opened.{IsOpened};
 ghost use Rattle.palm_store.specs.EntryInfos.{makes_resource, IsMadeOf};
+ghost use Rattle.database_edits.specs.Kept.{OnlySlides};
 ghost use Rattle.palm_store.specs.EntryCalls.{entries_of_image, resources_of_image, MayBeGiven};
 ghost use Rattle.palm_store.specs.NewEntries.{PutsIn, TakesIn};
 ghost use Rattle.palm_store.specs.KnownIds.{StandFree, StandFreeBeside};
 
-use crate::entries::infos::NewEntry;
+use crate::entries::infos::EntryInfo;
 use crate::entries::known::KnownIds;
 use crate::entries::shapes::with_slot;
 use crate::lookup::header_in;
@@ -54,8 +54,7 @@ pub(crate) fn put_in(
         (making size ∷ entry_growth heap.old.bytes (store_of heap.old.bytes) opened.db ∷ [])) }
     ensures refusal { IfErr result (λ refusal. refusal ≡ Refusal.NotEnoughSpace) }
     ensures refused { OnErr result (Leaves heap.old.bytes heap.new.bytes (held heap.old.bytes)) }
-    ensures loan { KeepsLoan heap.old heap.new }
-    ensures rest { heap.new ≡ record heap.old { bytes = heap.new.bytes; slid = heap.new.slid } }
+    ensures kept { OnlySlides heap.old heap.new }
 {
     let name = heap.sys_new(size, DATA_OWNER)?;
     let still = OpenDatabase {
@@ -98,58 +97,50 @@ pub(crate) fn take_in(
         (entry_growth heap.old.bytes (store_of heap.old.bytes) opened.db ∷ [])) }
     ensures refusal { IfErr result (λ refusal. refusal ≡ Refusal.NotEnoughSpace) }
     ensures refused { OnErr result (heap.new ≡ heap.old) }
-    ensures loan { KeepsLoan heap.old heap.new }
-    ensures rest { heap.new ≡ record heap.old { bytes = heap.new.bytes; slid = heap.new.slid } }
+    ensures kept { OnlySlides heap.old heap.new }
 {
     insert_entry(heap, opened, at as u16, with_slot(entry, name))?;
     heap.sys_set_owner(name, DATA_OWNER);
     Ok(())
 }
 
-/// A new entry, without data yet, and the IDs that are known to be free besides its own.
-#[derive(Clone, Copy)]
-pub(crate) struct MadeEntry {
-    pub(crate) entry: DbEntry,
-    pub(crate) known: KnownIds,
-}
-
-/// Returns the new entry. A record gets a fresh ID: the next one, if that is known to be free.
+/// Returns the new entry, without data yet, and the IDs that are known to be free besides its own.
+/// A record gets a fresh ID: the next one, if that is known to be free.
 #[inline(always)]
 pub(crate) fn new_entry(
     heap: &Heap,
     opened: OpenDatabase,
-    entry: NewEntry,
+    entry: EntryInfo<()>,
     known: KnownIds,
-) -> MadeEntry
+) -> (DbEntry, KnownIds)
     requires accepted { Accepted heap.now.bytes }
     requires opened { IsOpened heap.now.bytes opened }
     requires kind { makes_resource entry ≡ resources_of_image heap.now.bytes opened.db }
     requires few { length (entries_of_image heap.now.bytes opened.db) < most_entries }
     requires known { StandFree (store_of heap.now.bytes) known }
-    ensures is { IsMadeOf (store_of heap.now.bytes) opened.db entry 0 (entry_of result.entry) }
-    ensures kind { is_resource result.entry ≡ makes_resource entry }
-    ensures id { HasFittingId result.entry }
-    ensures fits { EntryFits (is_resource result.entry) (entry_of result.entry) }
-    ensures known { StandFreeBeside (store_of heap.now.bytes) (entry_of result.entry) result.known }
+    ensures is { IsMadeOf (store_of heap.now.bytes) opened.db entry 0 (entry_of result.0) }
+    ensures kind { is_resource result.0 ≡ makes_resource entry }
+    ensures id { HasFittingId result.0 }
+    ensures fits { EntryFits (is_resource result.0) (entry_of result.0) }
+    ensures known { StandFreeBeside (store_of heap.now.bytes) (entry_of result.0) result.1 }
 {
     match entry {
-        NewEntry::Record { attributes } => {
+        EntryInfo::Record { attributes, .. } => {
             let free = free_ids(header_in(heap, opened), known.of(opened.db));
-            MadeEntry {
-                entry: DbEntry::Record(RecordEntry {
-                    attributes: RecordAttrs::from_bits_retain(attributes),
-                    id: free.first,
-                    slot: 0,
-                }),
-                known: KnownIds {
-                    db: opened.db,
-                    ids: free.without(free.first),
-                },
-            }
+            let record = RecordEntry {
+                attributes: RecordAttrs::from_bits_retain(attributes),
+                id: free.first,
+                slot: 0,
+            };
+            let known = KnownIds {
+                db: opened.db,
+                ids: free.without(free.first),
+            };
+            (DbEntry::Record(record), known)
         }
-        NewEntry::Resource { kind, id } => MadeEntry {
-            entry: DbEntry::Resource(ResourceEntry { kind, id, slot: 0 }),
-            known,
-        },
+        EntryInfo::Resource { kind, id } => {
+            let resource = ResourceEntry { kind, id, slot: 0 };
+            (DbEntry::Resource(resource), known)
+        }
     }
 }

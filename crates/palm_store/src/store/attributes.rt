@@ -1,9 +1,9 @@
 //! Changes of the attributes of all records of a database by one call.
 
 ghost use Rattle.std.specs.Prelude.{◌≡◌, false, map};
-ghost use Rattle.heap_model.specs.Lending.{KeepsLoan};
 ghost use Rattle.heap_model.specs.EntrySteps.{with_attributes, with_entries, MakesNone};
 ghost use Rattle.palm_store.specs.AttributeChanges.{MayChange};
+ghost use Rattle.database_edits.specs.Kept.{OnlyWrites};
 ghost use Rattle.palm_store.specs.EntryCalls.{resources_of_image, LeavesChanged};
 ghost use Rattle.palm_store.specs.Opened.{IsOpened};
 
@@ -22,8 +22,7 @@ impl Store {
             (λ store. with_entries store opened.db (map (with_attributes (C.made change)))) }
         ensures opened { IsOpened self.new.bytes opened }
         ensures none_made { MakesNone self.old.bytes self.new.bytes }
-        ensures loan { KeepsLoan self.old self.new }
-        ensures rest { self.new ≡ record self.old { bytes = self.new.bytes } }
+        ensures kept { OnlyWrites self.old self.new }
     {
         change_attributes(&mut self.heap, opened, change);
     }

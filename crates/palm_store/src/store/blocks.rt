@@ -29,7 +29,7 @@ impl Store {
         ensures refused { OnErr result (self.new ≡ self.old) }
     {
         let found = find_writable_block(&self.heap, db, which)?;
-        if found.name.0 != 0 {
+        if found.item.0 != 0 {
             return Err(Refusal::AlreadyExists);
         }
         self.check_given(name)?;
@@ -54,12 +54,12 @@ impl Store {
         ensures refused { OnErr result (self.new ≡ self.old) }
     {
         let found = find_writable_block(&self.heap, db, which)?;
-        if found.name.0 == 0 {
+        if found.item.0 == 0 {
             return Err(Refusal::NoInfoBlock);
         }
         check_owner(owner)?;
         self.known = NOTHING_KNOWN;
-        let name = found.name;
+        let name = found.item;
         take_block(&mut self.heap, found, which, owner);
         Ok(name)
     }

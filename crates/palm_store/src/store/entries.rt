@@ -2,30 +2,29 @@
 //! the refusals listed. The caller must prove everything else (see each `requires`).
 
 ghost use Rattle.std.specs.Prelude.{◌≡◌, ◌≢◌, ◌<◌, ◌≤◌, None, length, false, IfSome, IfNone, IfOk, OnOk, OnErr, IfErr};
-ghost use Rattle.heap_model.specs.Lending.{KeepsLoan};
 ghost use Rattle.heap_model.specs.Chunk.{need};
 ghost use Rattle.heap_model.specs.Reading.{held};
 ghost use Rattle.heap_model.specs.Space.{FitsInPlace, MovesNothing, MovesOneStretchAnd};
 ghost use Rattle.heap_model.specs.Store.{Accepted, store_of};
 ghost use Rattle.heap_model.specs.Refusals.{NoneHolds, FirstBrings};
 ghost use Rattle.heap_model.specs.StoreWords.{with_number};
-ghost use Rattle.heap_model.specs.EntrySteps.{data_freed, raised, MakesNone};
+ghost use Rattle.heap_model.specs.EntrySteps.{entry_under, data_freed, raised, OfEntry, Tells, MakesNone};
 ghost use Rattle.heap_model.specs.StoreSteps.{StoreAsBefore};
 ghost use Rattle.palm_store.specs.Databases.{HasNumber, HasDatabase};
 ghost use Rattle.palm_store.specs.Opened.{IsOpened};
 ghost use Rattle.palm_store.specs.EntryInfos.{makes_resource, MayOwn, dropped_to};
-ghost use Rattle.palm_store.specs.EntryCalls.{entries_of_image, resources_of_image, data_of_image, HasDbAttributes, HasLockedData, IsEntryData, IsHeard, MayHave, MayBeGiven, checks_of_giving, checks_of_making, checks_of_attaching, checks_of_data_growth, raised_if, LeavesChanged, LeavesMade, LeavesAttached, entry_informed, entry_given, entry_moved_in, data_sized};
+ghost use Rattle.database_edits.specs.Kept.{OnlyWrites, OnlySlides};
+ghost use Rattle.palm_store.specs.EntryCalls.{entries_of_image, resources_of_image, data_of_image, HasLockedData, IsEntryData, MayHave, MayBeGiven, checks_of_giving, checks_of_making, checks_of_attaching, checks_of_data_growth, raised_if, LeavesChanged, LeavesMade, LeavesAttached, entry_informed, entry_given, entry_moved_in, data_sized};
 
 use crate::chunks::{check_taken, free_chunk_of};
 use crate::entries::{
-    EntryInfo, FoundEntry, NewEntry, emptied, entry_at, entry_with, new_entry, put_in, read_entry,
-    take_in, with_slot,
+    EntryInfo, emptied, entry_with, new_entry, put_in, read_entry, take_in, told, with_slot,
 };
 use crate::lookup::{find_header, find_opened, header_in, opened_of};
 use crate::store::Store;
 use database_edits::{OpenDatabase, count_change, move_entry, remove_entry, write_entry};
-use db_format::{DatabaseView, DbAttrs};
-use heap_model::{Db, Name, Refusal};
+use db_format::DatabaseView;
+use heap_model::{Db, Entry, Name, Refusal};
 use mem_manager::DATA_OWNER;
 
 /// The greatest number of entries of a database.
@@ -83,30 +82,14 @@ impl Store {
         DatabaseView::of(header_in(&self.heap, opened))
     }
 
-    /// Returns the attributes of a database, and the fields of its entry at an index, if there is
-    /// one.
-    ///
-    /// # Errors
-    /// - `NoSuchDatabase`: if no database has the number.
+    /// Returns the fields of an entry of an open database.
     #[inline(always)]
-    pub fn find_entry(&self, db: Db, index: u32) -> Result<FoundEntry, Refusal>
-        ensures accepted { Accepted self.now.bytes }
-        ensures known { OnOk result (HasNumber self.now.bytes db.0) }
-        ensures attributes { IfOk result (λ found.
-            HasDbAttributes self.now.bytes db found.attributes.0) }
-        ensures opened { IfOk result (λ found. IsOpened self.now.bytes found.opened) }
-        ensures db { IfOk result (λ found. found.opened.db ≡ db) }
-        ensures entry { IfOk result (λ found. IsHeard self.now.bytes db index found.entry) }
-        ensures unknown { OnErr result (with_number (store_of self.now.bytes) db.0 ≡ None) }
-        ensures refusal { IfErr result (λ refusal. refusal ≡ Refusal.NoSuchDatabase) }
+    pub fn entry_in(&self, opened: OpenDatabase, index: u32) -> Entry
+        requires opened { IsOpened self.now.bytes opened }
+        requires inside { index < length (entries_of_image self.now.bytes opened.db) }
+        ensures { OfEntry (entry_under (store_of self.now.bytes) opened.db index) (Tells result) }
     {
-        let opened = find_opened(&self.heap, db)?;
-        let header = header_in(&self.heap, opened);
-        Ok(FoundEntry {
-            opened,
-            attributes: DbAttrs(db_format::attributes(header)),
-            entry: entry_at(header, index),
-        })
+        told(read_entry(&self.heap, opened, index))
     }
 
     /// Makes an entry at an index with `size` zeros for its data, and returns the name of the data.
@@ -123,7 +106,7 @@ impl Store {
         &mut self,
         opened: OpenDatabase,
         at: u32,
-        entry: NewEntry,
+        entry: EntryInfo<()>,
         size: u32,
     ) -> Result<Name, Refusal>
         requires opened { IsOpened self.old.bytes opened }
@@ -137,17 +120,16 @@ impl Store {
         ensures as_before { OnErr result (StoreAsBefore self.old self.new) }
         ensures untouched { IfErr result (λ refusal.
             refusal ≢ Refusal.NotEnoughSpace → self.new ≡ self.old) }
-        ensures loan { KeepsLoan self.old self.new }
-        ensures rest { self.new ≡ record self.old { bytes = self.new.bytes; slid = self.new.slid } }
+        ensures kept { OnlySlides self.old self.new }
     {
         // the store is looked at, so that its invariant is known
         let _ = &self.heap;
         if opened.entry_count >= MOST_ENTRIES {
             return Err(Refusal::TooManyEntries);
         }
-        let made = new_entry(&self.heap, opened, entry, self.known);
-        let name = put_in(&mut self.heap, opened, at, made.entry, size)?;
-        self.known = made.known;
+        let (made, known) = new_entry(&self.heap, opened, entry, self.known);
+        let name = put_in(&mut self.heap, opened, at, made, size)?;
+        self.known = known;
         Ok(name)
     }
 
@@ -177,7 +159,7 @@ impl Store {
         &mut self,
         opened: OpenDatabase,
         at: u32,
-        entry: NewEntry,
+        entry: EntryInfo<()>,
         name: Name,
     ) -> Result<(), Refusal>
         requires opened { IsOpened self.old.bytes opened }
@@ -189,15 +171,14 @@ impl Store {
         ensures could { OnOk result (NoneHolds (checks_of_attaching self.old.bytes opened.db)) }
         ensures why { IfErr result (FirstBrings (checks_of_attaching self.old.bytes opened.db)) }
         ensures refused { OnErr result (self.new ≡ self.old) }
-        ensures loan { KeepsLoan self.old self.new }
-        ensures rest { self.new ≡ record self.old { bytes = self.new.bytes; slid = self.new.slid } }
+        ensures kept { OnlySlides self.old self.new }
     {
         if opened.entry_count >= MOST_ENTRIES {
             return Err(Refusal::TooManyEntries);
         }
-        let made = new_entry(&self.heap, opened, entry, self.known);
-        take_in(&mut self.heap, opened, at, made.entry, name)?;
-        self.known = made.known;
+        let (made, known) = new_entry(&self.heap, opened, entry, self.known);
+        take_in(&mut self.heap, opened, at, made, name)?;
+        self.known = known;
         Ok(())
     }
 
@@ -218,8 +199,7 @@ impl Store {
         ensures unmoved { FitsInPlace self.old.bytes name.0 (need size)
             → MovesNothing self.old.bytes self.new.bytes }
         ensures one_stretch { MovesOneStretchAnd self.old.bytes self.new.bytes name.0 }
-        ensures loan { KeepsLoan self.old self.new }
-        ensures rest { self.new ≡ record self.old { bytes = self.new.bytes; slid = self.new.slid } }
+        ensures kept { OnlySlides self.old self.new }
     {
         let found = self.heap.sys_find(name);
         self.heap.sys_resize(name, found, size)?;
@@ -236,8 +216,7 @@ impl Store {
         ensures set { LeavesChanged self.old self.new
             (λ store. raised_if counts (entry_informed store opened.db index info) opened.db) }
         ensures none_made { MakesNone self.old.bytes self.new.bytes }
-        ensures loan { KeepsLoan self.old self.new }
-        ensures rest { self.new ≡ record self.old { bytes = self.new.bytes } }
+        ensures kept { OnlyWrites self.old self.new }
     {
         let entry = entry_with(read_entry(&self.heap, opened, index), info);
         write_entry(&mut self.heap, opened, index as u16, entry, counts);
@@ -265,8 +244,7 @@ impl Store {
         ensures swapped { LeavesChanged self.old self.new
             (λ store. raised (entry_given store opened.db index info name.0 owner) opened.db) }
         ensures none_made { MakesNone self.old.bytes self.new.bytes }
-        ensures loan { KeepsLoan self.old self.new }
-        ensures rest { self.new ≡ record self.old { bytes = self.new.bytes } }
+        ensures kept { OnlyWrites self.old self.new }
     {
         let was = read_entry(&self.heap, opened, index);
         let entry = with_slot(entry_with(was, info), name);
@@ -286,8 +264,7 @@ impl Store {
         ensures moved { LeavesChanged self.old self.new
             (λ store. raised (entry_moved_in store opened.db from to) opened.db) }
         ensures none_made { MakesNone self.old.bytes self.new.bytes }
-        ensures loan { KeepsLoan self.old self.new }
-        ensures rest { self.new ≡ record self.old { bytes = self.new.bytes; slid = self.new.slid } }
+        ensures kept { OnlySlides self.old self.new }
     {
         move_entry(&mut self.heap, opened, from as u16, to as u16);
     }
@@ -304,8 +281,7 @@ impl Store {
             (λ store. raised_if counts (data_freed store opened.db index) opened.db) }
         ensures opened { IsOpened self.new.bytes opened }
         ensures none_made { MakesNone self.old.bytes self.new.bytes }
-        ensures loan { KeepsLoan self.old self.new }
-        ensures rest { self.new ≡ record self.old { bytes = self.new.bytes } }
+        ensures kept { OnlyWrites self.old self.new }
     {
         let entry = read_entry(&self.heap, opened, index);
         write_entry(&mut self.heap, opened, index as u16, emptied(entry), counts);
@@ -324,8 +300,7 @@ impl Store {
         ensures dropped { LeavesChanged self.old self.new
             (λ store. raised (dropped_to store opened.db index owner) opened.db) }
         ensures none_made { MakesNone self.old.bytes self.new.bytes }
-        ensures loan { KeepsLoan self.old self.new }
-        ensures rest { self.new ≡ record self.old { bytes = self.new.bytes; slid = self.new.slid } }
+        ensures kept { OnlySlides self.old self.new }
     {
         let slot = Name(read_entry(&self.heap, opened, index).slot());
         remove_entry(&mut self.heap, opened, index as u16);
@@ -342,8 +317,7 @@ impl Store {
         ensures counted { LeavesChanged self.old self.new (λ store. raised store opened.db) }
         ensures none_made { MakesNone self.old.bytes self.new.bytes }
         ensures unmoved { MovesNothing self.old.bytes self.new.bytes }
-        ensures loan { KeepsLoan self.old self.new }
-        ensures rest { self.new ≡ record self.old { bytes = self.new.bytes } }
+        ensures kept { OnlyWrites self.old self.new }
     {
         count_change(&mut self.heap, opened);
     }

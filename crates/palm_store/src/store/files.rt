@@ -2,12 +2,13 @@
 //! The caller must prove their preconditions.
 
 ghost use Rattle.std.specs.Prelude.{◌≡◌, ◌↔◌, None, length, IfSome, IfNone, IsTrue, Any};
-ghost use Rattle.heap_model.specs.Lending.{IsLent, KeepsLoan};
+ghost use Rattle.heap_model.specs.Lending.{IsLent};
 ghost use Rattle.heap_model.specs.Space.{MovesNothing};
 ghost use Rattle.heap_model.specs.Database.{HasShape, IsSpelled, database_in};
 ghost use Rattle.heap_model.specs.Store.{Accepted, bytes_of, store_of};
 ghost use Rattle.heap_model.specs.StoreWords.{with_number};
 ghost use Rattle.palm_store.specs.Databases.{HasNumber, HasDatabase, named_under};
+ghost use Rattle.database_edits.specs.Kept.{OnlyWrites};
 ghost use Rattle.palm_store.specs.EntryCalls.{LeavesChanged};
 ghost use Rattle.palm_store.specs.Files.{IsDataName, HasDataOf, data_filled};
 
@@ -59,8 +60,7 @@ impl Store {
         ensures filled { LeavesChanged self.old self.new
             (λ store. data_filled store name.0 bytes.now) }
         ensures unmoved { MovesNothing self.old.bytes self.new.bytes }
-        ensures loan { KeepsLoan self.old self.new }
-        ensures rest { self.new ≡ record self.old { bytes = self.new.bytes } }
+        ensures kept { OnlyWrites self.old self.new }
     {
         let chunk = self.heap.sys_find(name);
         self.heap.sys_write(name, chunk, 0, bytes);

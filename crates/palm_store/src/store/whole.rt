@@ -1,14 +1,14 @@
 //! The call that makes a whole database, for a crate that reads one from a file.
 
 ghost use Rattle.std.specs.Prelude.{◌≡◌, ◌≢◌, ◌+◌, length, IfOk, IfErr, OnOk, OnErr};
-ghost use Rattle.heap_model.specs.Lending.{KeepsLoan};
 ghost use Rattle.heap_model.specs.Refusals.{NoneHolds, FirstBrings};
 ghost use Rattle.heap_model.specs.StoreSteps.{StoreAsBefore};
+ghost use Rattle.database_edits.specs.Kept.{OnlySlides};
 ghost use Rattle.palm_store.specs.EntryCalls.{LeavesChanged};
 ghost use Rattle.palm_store.specs.WholeDatabases.{numbers_in, CanBeWhole, MakesWhole, checks_of_whole};
 
-use crate::databases::{BlockSizes, WholeEntry, list_whole, write_whole};
-use crate::entries::NOTHING_KNOWN;
+use crate::databases::{BlockSizes, list_whole, write_whole};
+use crate::entries::{EntryInfo, NOTHING_KNOWN};
 use crate::lookup::{count_databases, has_other_name};
 use crate::store::Store;
 use db_format::{DbAttrs, MOST_DATABASES, entry_offset};
@@ -16,6 +16,8 @@ use heap_model::{Db, DbInfo, Name, Refusal};
 
 impl Store {
     /// Makes a database with this header and these entries, after the others: all of it or nothing.
+    /// Each entry comes with the size of its data. A record without data is a deleted one, and a
+    /// resource has data.
     /// Its info blocks and the data of its entries are zeros. Their names are put into `names`, in
     /// that order; `Name(0)` means that there is none.
     ///
@@ -31,7 +33,7 @@ impl Store {
         &mut self,
         info: &DbInfo,
         blocks: BlockSizes,
-        entries: &[WholeEntry],
+        entries: &[(EntryInfo, Option<u32>)],
         names: &mut [Name],
     ) -> Result<Db, Refusal>
         requires whole { CanBeWhole info.now entries.now }
@@ -47,8 +49,7 @@ impl Store {
         ensures as_before { OnErr result (StoreAsBefore self.old self.new) }
         ensures untouched { IfErr result (λ refusal.
             refusal ≢ Refusal.NotEnoughSpace → self.new ≡ self.old) }
-        ensures loan { KeepsLoan self.old self.new }
-        ensures rest { self.new ≡ record self.old { bytes = self.new.bytes; slid = self.new.slid } }
+        ensures kept { OnlySlides self.old self.new }
     {
         if has_other_name(&self.heap, Db(0), info.name.as_slice()) {
             return Err(Refusal::AlreadyExists);

@@ -1,7 +1,7 @@
 //! Writes the blocks of a file into the chunks of the database that was made for it.
 
 ghost use Rattle.std.specs.Prelude.{◌≡◌, ◌<◌, ◌≤◌, ℕ, length, map, All};
-ghost use Rattle.heap_model.specs.Lending.{KeepsLoan};
+ghost use Rattle.palm_store.specs.EntryCalls.{OnlyWrites};
 ghost use Rattle.heap_model.specs.Store.{Accepted, store_of};
 ghost use Rattle.pdb_format.specs.Blocks.{bytes_at, IsBlockWithin};
 ghost use Rattle.palm_store.specs.WholeDatabases.{numbers_in};
@@ -28,8 +28,7 @@ pub(super) fn fill_blocks(
     ensures filled { AreFilled (store_of store.new.bytes).map
         (map (bytes_at file.now) blocks.now) (numbers_in names.now) (length names.now) }
     ensures refills { Refills store.old.bytes store.new.bytes (numbers_in names.now) }
-    ensures loan { KeepsLoan store.old store.new }
-    ensures rest { store.new ≡ record store.old { bytes = store.new.bytes } }
+    ensures kept { OnlyWrites store.old store.new }
 {
     for index in 0..names.len() {
         if let Some(block) = blocks[index] {

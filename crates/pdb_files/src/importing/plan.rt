@@ -14,10 +14,10 @@ ghost use Rattle.pdb_format.specs.ReadFiles.{header_read, HasIdsFor};
 ghost use Rattle.pdb_files.specs.Plans.{IsShort, IsPlannedOf, ArePlannedOf, IsPlan};
 
 use allowance::{Allowance, push};
-use db_format::{DbEntry, INFO_BLOCKS};
+use db_format::{DbEntry, INFO_BLOCKS, ResourceEntry};
 use file_ids::give_ids;
 use heap_model::DbInfo;
-use palm_store::{BlockSizes, WholeEntry};
+use palm_store::{BlockSizes, EntryInfo};
 use pdb_format::{Block, PdbFile, idle_attributes};
 use std::alloc::AllocError;
 
@@ -27,7 +27,7 @@ use std::alloc::AllocError;
 pub(super) struct Plan {
     pub(super) info: DbInfo,
     pub(super) sizes: BlockSizes,
-    pub(super) entries: Vec<WholeEntry>,
+    pub(super) entries: Vec<(EntryInfo, Option<u32>)>,
 }
 
 /// Reads the plan for the database of a file with blocks at these places. The only error is a
@@ -114,7 +114,12 @@ fn sizes_of(blocks: &[Option<Block>]) -> BlockSizes
 }
 
 /// Plans an entry of a file. A record gets its ID from `ids`, and its data has this size.
-fn plan_entry(file: &PdbFile<'_>, index: u16, ids: &[u32], size: Option<u32>) -> WholeEntry
+fn plan_entry(
+    file: &PdbFile<'_>,
+    index: u16,
+    ids: &[u32],
+    size: Option<u32>,
+) -> (EntryInfo, Option<u32>)
     requires inside { index < entry_count_in file.now }
     requires ids { HasIdsFor file.now ids.now }
     requires size { size ≡ size_of_block (slice_index_or (blocks_in file.now) (2 + index) None) }
@@ -122,16 +127,15 @@ fn plan_entry(file: &PdbFile<'_>, index: u16, ids: &[u32], size: Option<u32>) ->
 {
     file.know_file();
     match file.entry(index) {
-        DbEntry::Record(record) => WholeEntry::Record {
-            attributes: idle_attributes(record.attributes).0,
-            id: ids[index as usize],
-            size,
-        },
-        DbEntry::Resource(resource) => WholeEntry::Resource {
-            kind: resource.kind,
-            id: resource.id,
-            size: size.unwrap(),
-        },
+        DbEntry::Record(record) => {
+            let attributes = idle_attributes(record.attributes).0;
+            let id = ids[index as usize];
+            (EntryInfo::Record { attributes, id }, size)
+        }
+        DbEntry::Resource(resource) => {
+            let ResourceEntry { kind, id, .. } = resource;
+            (EntryInfo::Resource { kind, id }, size)
+        }
     }
 }
 
@@ -141,7 +145,7 @@ fn plan_entries<A: Allowance>(
     file: &PdbFile<'_>,
     blocks: &[Option<Block>],
     ids: &[u32],
-) -> Result<Vec<WholeEntry>, AllocError>
+) -> Result<Vec<(EntryInfo, Option<u32>)>, AllocError>
     requires places { HasPlaces file.now blocks.now }
     requires size { length file.now < 2 ^ 63 }
     requires short { All IsShort blocks.now }

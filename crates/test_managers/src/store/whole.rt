@@ -5,7 +5,7 @@ ghost use Rattle.heap_model.specs.DatabaseFields.{name_size};
 
 use crate::store::images::with_databases;
 use heap_model::{Db, DbInfo, DbName, Entry, Name, RecordInfo, Refusal, ResourceInfo, Which};
-use palm_store::{BlockSizes, Store, WholeEntry};
+use palm_store::{Access, BlockSizes, EntryInfo, EntryKind, Store, count_entries, find_entry};
 use std::alloc::Global;
 use std::test::*;
 use test_beside::{blank_image, store_of};
@@ -43,18 +43,15 @@ fn make_records(store: &mut Store, names: &mut [Name]) -> Result<Db, Refusal>
         app_info: Some(3),
         sort_info: None,
     };
-    let entries = [
-        WholeEntry::Record {
-            attributes: 0x41,
-            id: 12,
-            size: Some(10),
-        },
-        WholeEntry::Record {
-            attributes: 0x80,
-            id: 11,
-            size: None,
-        },
-    ];
+    let first = EntryInfo::Record {
+        attributes: 0x41,
+        id: 12,
+    };
+    let deleted = EntryInfo::Record {
+        attributes: 0x80,
+        id: 11,
+    };
+    let entries = [(first, Some(10)), (deleted, None)];
     store.create_whole(&info_of_two(b"W", 0x0008), blocks, &entries, names)
 }
 
@@ -68,18 +65,11 @@ fn make_resources(store: &mut Store, names: &mut [Name]) -> Result<Db, Refusal>
         app_info: None,
         sort_info: Some(0),
     };
-    let entries = [
-        WholeEntry::Resource {
-            kind: 0x7453_5452,
-            id: 1000,
-            size: 0,
-        },
-        WholeEntry::Resource {
-            kind: 0x7453_5452,
-            id: 1000,
-            size: 5,
-        },
-    ];
+    let resource = EntryInfo::Resource {
+        kind: 0x7453_5452,
+        id: 1000,
+    };
+    let entries = [(resource, Some(0)), (resource, Some(5))];
     store.create_whole(&info_of_two(b"W", 0x0001), blocks, &entries, names)
 }
 
@@ -111,9 +101,13 @@ fn check_header(
     equal("its block", store.info_block(db, which), Ok(block))
 }
 
-/// The entry of an index, none after the last.
-fn check_entry(store: &Store, db: Db, index: u32, entry: Option<Entry>) -> Result<(), Fail> {
-    let found = store.find_entry(db, index)?.entry;
+/// The entry of an index, in a database of its kind.
+fn check_entry(store: &Store, db: Db, index: u32, entry: Entry) -> Result<(), Fail> {
+    let kind = match entry {
+        Entry::Record(_) => EntryKind::Records,
+        Entry::Resource(_) => EntryKind::Resources,
+    };
+    let found = find_entry(store, db, index, kind, Access::Read)?.item;
     equal(format_args!("entry {index}"), found, entry)
 }
 
@@ -129,9 +123,10 @@ fn check_two_records(store: &Store, db: Db, data: Name) -> Result<(), Fail> {
         id: 11,
         data: None,
     };
-    check_entry(store, db, 0, Some(Entry::Record(first)))?;
-    check_entry(store, db, 1, Some(Entry::Record(second)))?;
-    check_entry(store, db, 2, None)?;
+    check_entry(store, db, 0, Entry::Record(first))?;
+    check_entry(store, db, 1, Entry::Record(second))?;
+    let count = count_entries(store, db, EntryKind::Records, Access::Read);
+    equal("two records", count, Ok(2))?;
     check_zeros(store, data, 10)
 }
 
@@ -160,7 +155,7 @@ fn check_resource(store: &Store, db: Db, index: u32, data: Name, size: u32) -> R
         id: 1000,
         data,
     };
-    check_entry(store, db, index, Some(Entry::Resource(resource)))?;
+    check_entry(store, db, index, Entry::Resource(resource))?;
     check_zeros(store, data, size)
 }
 

@@ -2,13 +2,14 @@
 use Rattle.std.proofs.Common.{refl, arith}
 use Rattle.heap_model.specs.StoreWords.{next_modification}
 use Rattle.heap_model.specs.Leaving.{database_here}
-use Rattle.laws_heap.proofs.KeptLoans.{keeps_then}
-use Rattle.database_edits.proofs.Databases.{header_inside}
+use Rattle.database_edits.proofs.Kept.{writes_then}
+use Rattle.database_edits.proofs.HeadersHere.{room_here}
 use Rattle.database_edits.proofs.InfoBlocks.{block_fits, block_written}
 use Rattle.database_edits.proofs.blocks.write_block.Goals as goal
 
-pub put_info_block-requires-clause-inside : goal.put_info_block-requires-clause-inside
-put_info_block-requires-clause-inside c = header_inside c.args.heap.now.bytes c.args.opened.db.0 c.requires.opened.spells
+pub put_info_block-requires : goal.put_info_block-requires
+put_info_block-requires c =
+    record { header = room_here c.args.heap.now.bytes c.args.opened c.requires.opened }
 
 pub returns-clause-written : goal.returns-clause-written
 returns-clause-written c =
@@ -18,5 +19,6 @@ returns-clause-written c =
 pub returns-clause-fits : goal.returns-clause-fits
 returns-clause-fits c = block_fits c.args.which c.args.slot (database_here c.args.heap.now.bytes c.args.opened.db.0) (omega arith) c.requires.opened.spells.spelled.fits
 
-pub returns-clause-loan : goal.returns-clause-loan
-returns-clause-loan c = keeps_then _ _ _ c.put_info_block.ensures.loan c.put_modification_number.ensures.loan
+pub returns-clause-kept : goal.returns-clause-kept
+returns-clause-kept c =
+    writes_then _ _ _ c.put_info_block.ensures.kept c.put_modification_number.ensures.kept

@@ -4,12 +4,14 @@ use Rattle.heap_model.specs.Database.{Database}
 use Rattle.heap_model.specs.StoreWords.{next_modification}
 use Rattle.heap_model.specs.Leaving.{database_here}
 use Rattle.database_edits.specs.Edits.{counted}
-use Rattle.database_edits.proofs.Databases.{header_inside, counted_fits}
+use Rattle.database_edits.proofs.Databases.{counted_fits}
+use Rattle.database_edits.proofs.HeadersHere.{room_here}
 use Rattle.database_edits.proofs.RaisedNumbers.{raised, spells_now, database_now}
 use Rattle.database_edits.proofs.counting.count_change.Goals as goal
 
-pub put_modification_number-requires-clause-inside : goal.put_modification_number-requires-clause-inside
-put_modification_number-requires-clause-inside c = header_inside c.args.heap.now.bytes c.args.opened.db.0 c.requires.opened.spells
+pub put_modification_number-requires : goal.put_modification_number-requires
+put_modification_number-requires c =
+    record { header = room_here c.args.heap.now.bytes c.args.opened c.requires.opened }
 
 pub returns-clause-counted : goal.returns-clause-counted
 returns-clause-counted c =
@@ -24,7 +26,7 @@ returns-clause-now c =
 
 pub returns-clause-opened : goal.returns-clause-opened
 returns-clause-opened c = record {
-  stands = c.put_modification_number.ensures.stands;
+  stands = c.put_modification_number.ensures.header.stands;
   spells =
       spells_now c.args.heap.now.bytes c.put_modification_number.new.heap.bytes c.args.opened.db.0 (counted (database_here c.args.heap.now.bytes c.args.opened.db.0)) (counted_fits (database_here c.args.heap.now.bytes c.args.opened.db.0) c.requires.opened.spells.spelled.fits)
       (raised c.args.heap.now.bytes c.put_modification_number.new.heap.bytes c.args.opened.db.0 c.heading_here-heading.result.modification_number (next_modification c.heading_here-heading.result.modification_number) c.requires.opened.spells c.heading_here-heading.ensures.modification_number refl

@@ -1,22 +1,23 @@
+-- The field is written into the header, and the rest of the chunk stays.
 use Rattle.std.proofs.Common.{ℕ, subst, arith}
 use Rattle.heap_model.specs.Maps.{put}
 use Rattle.heap_model.specs.Reading.{held}
 use Rattle.heap_model.specs.Leaving.{Leaves}
 use Rattle.db_format.specs.Headers.{HasInfoBlock, info_block_at}
-use Rattle.database_edits.proofs.HeadersHere.{field_put, put_managers, put_inside}
+use Rattle.database_edits.proofs.HeadersHere.{field_put, header_kept}
 use Rattle.database_edits.proofs.InfoBlocks.{block_within}
 use Rattle.database_edits.proofs.headers.put_info_block.Goals as goal
 
 pub returns-clause-puts : goal.returns-clause-puts
 returns-clause-puts c =
-    field_put c.args.heap.now.bytes c.sys_write.new.self.bytes c.args.opened.db.0 (info_block_at c.args.which) c.info_block_bytes-bytes.result (HasInfoBlock c.args.which c.args.slot) c.requires.managers (block_within c.args.which c.info_block_bytes-bytes.result (omega arith))
+    field_put c.args.heap.now.bytes c.sys_write.new.self.bytes c.args.opened.db.0 (info_block_at c.args.which) c.info_block_bytes-bytes.result (HasInfoBlock c.args.which c.args.slot) c.requires.header.managers (block_within c.args.which c.info_block_bytes-bytes.result (omega arith))
     (c.info_block_bytes-bytes.ensures c.args.which)
     (subst (λ (at : ℕ). Leaves c.args.heap.now.bytes c.sys_write.new.self.bytes (put (held c.args.heap.now.bytes) c.args.opened.db.0 at c.info_block_bytes-bytes.result)) c.info_block_at.ensures c.sys_write.ensures.leaves)
 
-pub returns-clause-managers : goal.returns-clause-managers
-returns-clause-managers c = put_managers c.args.heap.now.bytes c.sys_write.new.self.bytes c.args.opened.db.0 c.info_block_at.result c.info_block_bytes-bytes.result c.requires.managers c.sys_write.ensures.leaves
-
-pub returns-clause-inside : goal.returns-clause-inside
-returns-clause-inside c =
-    put_inside c.args.heap.now.bytes c.sys_write.new.self.bytes c.args.opened.db.0 (info_block_at c.args.which) c.info_block_bytes-bytes.result c.requires.managers c.requires.inside (block_within c.args.which c.info_block_bytes-bytes.result (omega arith))
+pub returns-clause-header : goal.returns-clause-header
+returns-clause-header c =
+    header_kept c.args.heap.now.bytes c.sys_write.new.self.bytes c.args.opened
+    (info_block_at c.args.which) c.info_block_bytes-bytes.result c.requires.header
+    (block_within c.args.which c.info_block_bytes-bytes.result (omega arith))
+    c.sys_write.ensures.stands
     (subst (λ (at : ℕ). Leaves c.args.heap.now.bytes c.sys_write.new.self.bytes (put (held c.args.heap.now.bytes) c.args.opened.db.0 at c.info_block_bytes-bytes.result)) c.info_block_at.ensures c.sys_write.ensures.leaves)

@@ -1,14 +1,15 @@
+-- The field is written into the header, and the rest of the chunk stays.
 use Rattle.std.proofs.Common.{arith}
 use Rattle.db_format.specs.Headers.{HasSeed}
-use Rattle.database_edits.proofs.HeadersHere.{field_put, put_managers, put_inside}
+use Rattle.database_edits.proofs.HeadersHere.{field_put, header_kept}
 use Rattle.database_edits.proofs.headers.put_seed.Goals as goal
 
 pub returns-clause-puts : goal.returns-clause-puts
 returns-clause-puts c =
-    field_put c.args.heap.now.bytes c.sys_write.new.self.bytes c.args.opened.db.0 68 c.seed_bytes-bytes.result (HasSeed c.args.seed) c.requires.managers (omega arith) c.seed_bytes-bytes.ensures c.sys_write.ensures.leaves
+    field_put c.args.heap.now.bytes c.sys_write.new.self.bytes c.args.opened.db.0 68 c.seed_bytes-bytes.result (HasSeed c.args.seed) c.requires.header.managers (omega arith) c.seed_bytes-bytes.ensures c.sys_write.ensures.leaves
 
-pub returns-clause-managers : goal.returns-clause-managers
-returns-clause-managers c = put_managers c.args.heap.now.bytes c.sys_write.new.self.bytes c.args.opened.db.0 68 c.seed_bytes-bytes.result c.requires.managers c.sys_write.ensures.leaves
-
-pub returns-clause-inside : goal.returns-clause-inside
-returns-clause-inside c = put_inside c.args.heap.now.bytes c.sys_write.new.self.bytes c.args.opened.db.0 68 c.seed_bytes-bytes.result c.requires.managers c.requires.inside (omega arith) c.sys_write.ensures.leaves
+pub returns-clause-header : goal.returns-clause-header
+returns-clause-header c =
+    header_kept c.args.heap.now.bytes c.sys_write.new.self.bytes c.args.opened 68
+    c.seed_bytes-bytes.result c.requires.header (omega arith)
+    c.sys_write.ensures.stands c.sys_write.ensures.leaves

@@ -6,7 +6,7 @@ use Rattle.heap_model.specs.Leaving.{database_here}
 use Rattle.heap_model.specs.StoreWords.{next_modification}
 use Rattle.db_format.specs.EitherEntry.{entry_of, is_resource}
 use Rattle.laws_heap.proofs.Results.{on_err}
-use Rattle.laws_heap.proofs.KeptLoans.{keeps_then}
+use Rattle.database_edits.proofs.Kept.{writes_then, slides_then, none_slid}
 use Rattle.database_edits.specs.Edits.{HasNoRoomForEntry, entry_inserted}
 use Rattle.database_edits.proofs.Chunks.{is_movable}
 use Rattle.database_edits.proofs.HeadersHere.{heading_spelled}
@@ -21,6 +21,20 @@ returns-in_err-grow-clause-no_room c =
     on_err (HasNoRoomForEntry c.args.heap.now.bytes c.args.opened.db.0 (is_resource c.args.entry)) c.from_residual.result
     (subst (λ (resources : Bool). HasNoRoomForEntry c.args.heap.now.bytes c.args.opened.db.0 resources) (sym c.requires.kind)
     (short_of c.args.heap.now.bytes c.args.opened.db.0 c.entry_offset.result c.args.opened.entry_count c.is_resource-resources.result c.requires.opened.spells (c.is_resource-resources.ensures ∙ c.requires.kind) c.requires.opened.count c.entry_offset.ensures c.in_err-grow.ensures.no_room))
+
+pub put_entry_count-requires : goal.put_entry_count-requires
+put_entry_count-requires c =
+    let d : Database ℕ = database_here c.args.heap.now.bytes c.args.opened.db.0 in
+    let entry : Entry ℕ = entry_of c.args.entry in
+    let has = inserted_kept c.args.heap.now.bytes c.grow.new.heap.bytes c.slide_entries.new.heap.bytes c.put_entry.new.heap.bytes c.args.opened.db.0 c.args.index c.entry_offset.result c.args.opened.entry_count c.is_resource-resources.result entry d
+    (heading_spelled c.args.heap.now.bytes c.args.opened.db.0 c.requires.opened.spells) c.entry_offset.ensures c.in_ok-grow.ensures.grows c.slide_entries.ensures.slides c.put_entry.ensures.writes in
+    record {
+      header = record {
+        stands = c.put_entry.ensures.stands;
+        managers = c.put_entry.ensures.writes.managers;
+        inside = has.inside;
+      };
+    }
 
 pub returns-clause-inserted : goal.returns-clause-inserted
 returns-clause-inserted c =
@@ -38,5 +52,11 @@ returns-clause-inserted c =
     (c.seed_after.ensures d.header (sym c.heading_here-heading.ensures.seed)) c.heading_here-heading.ensures.modification_number refl
     c.put_entry_count.ensures.puts c.put_seed.ensures.puts c.put_modification_number.ensures.puts)
 
-pub returns-clause-loan : goal.returns-clause-loan
-returns-clause-loan c = keeps_then _ _ _ (keeps_then _ _ _ (keeps_then _ _ _ (keeps_then _ _ _ (keeps_then _ _ _ c.grow.ensures.loan c.slide_entries.ensures.loan) c.put_entry.ensures.loan) c.put_entry_count.ensures.loan) c.put_seed.ensures.loan) c.put_modification_number.ensures.loan
+pub returns-clause-kept : goal.returns-clause-kept
+returns-clause-kept c =
+    let entry = none_slid _ _ c.put_entry.ensures.kept in
+    let count = c.put_entry_count.ensures.kept in
+    let number = c.put_modification_number.ensures.kept in
+    let fields = writes_then _ _ _ (writes_then _ _ _ count c.put_seed.ensures.kept) number in
+    let slid = slides_then _ _ _ c.grow.ensures.kept c.slide_entries.ensures.kept in
+    slides_then _ _ _ (slides_then _ _ _ slid entry) (none_slid _ _ fields)

@@ -1,7 +1,7 @@
 -- Those between slide to the front over the entry.
 use Rattle.std.proofs.Common.{◌∙◌, ◌+◌, ◌-◌, arith}
 use Rattle.db_format.specs.EitherEntry.{entry_of}
-use Rattle.laws_heap.proofs.KeptLoans.{keeps_then}
+use Rattle.database_edits.proofs.Kept.{slides_then, none_slid}
 use Rattle.database_edits.proofs.Entries.{inside_body}
 use Rattle.database_edits.proofs.Crossed.{went_back}
 use Rattle.database_edits.proofs.moving.move_to_back.Goals as goal
@@ -28,5 +28,6 @@ returns-clause-respells c =
     went_back c.args.heap.now.bytes c.slide_entries.new.heap.bytes c.put_entry.new.heap.bytes c.args.opened.db.0 c.args.from c.args.to (entry_of c.entry_here-entry.result) c.is_resource-resources.result c.requires.opened.spells c.requires.back c.requires.inside c.entry_here-entry.ensures.is
     (c.is_resource-resources.ensures ∙ c.entry_here-entry.ensures.kind) c.slide_entries.ensures.slides c.put_entry.ensures.writes
 
-pub returns-clause-loan : goal.returns-clause-loan
-returns-clause-loan c = keeps_then _ _ _ c.slide_entries.ensures.loan c.put_entry.ensures.loan
+pub returns-clause-kept : goal.returns-clause-kept
+returns-clause-kept c =
+    slides_then _ _ _ c.slide_entries.ensures.kept (none_slid _ _ c.put_entry.ensures.kept)

@@ -2,7 +2,7 @@
 -- shrinks.
 use Rattle.std.proofs.Common.{refl, ◌+◌, ◌-◌, arith}
 use Rattle.heap_model.specs.Leaving.{database_here}
-use Rattle.laws_heap.proofs.KeptLoans.{keeps_then}
+use Rattle.database_edits.proofs.Kept.{writes_then, slides_then, none_slid}
 use Rattle.database_edits.specs.Edits.{entry_removed}
 use Rattle.database_edits.proofs.Entries.{inside_body}
 use Rattle.database_edits.proofs.RemovedEntries.{removed, slid_kept, header_written}
@@ -19,11 +19,16 @@ slide_entries-requires-clause-to_inside c =
     let inside = c.requires.inside in
     inside_body c.args.heap.now.bytes c.args.opened.db.0 (c.args.index + (c.args.opened.entry_count - (c.args.index + 1))) c.heading_here-heading.result.resources c.requires.opened.spells c.heading_here-heading.ensures.kind (omega (arith, count, inside))
 
-pub put_entry_count-requires-clause-inside : goal.put_entry_count-requires-clause-inside
-put_entry_count-requires-clause-inside c =
+pub put_entry_count-requires : goal.put_entry_count-requires
+put_entry_count-requires c =
     let has = slid_kept c.args.heap.now.bytes c.slide_entries.new.heap.bytes c.args.opened.db.0 c.args.index c.args.opened.entry_count c.heading_here-heading.result.resources c.requires.opened.spells c.slide_entries.ensures.slides in
-    let inside = has.inside in
-    inside
+    record {
+      header = record {
+        stands = c.slide_entries.ensures.stands;
+        managers = c.slide_entries.ensures.slides.managers;
+        inside = has.inside;
+      };
+    }
 
 pub shrink-requires-clause-managers : goal.shrink-requires-clause-managers
 shrink-requires-clause-managers c =
@@ -50,5 +55,9 @@ returns-clause-removed c =
     (entry_removed c.args.index (database_here c.args.heap.now.bytes c.args.opened.db.0)) c.heading_here-heading.result.resources c.requires.opened.spells c.requires.inside
     c.heading_here-heading.ensures.kind c.requires.opened.count c.slide_entries.ensures.slides c.slide_entries.ensures.len refl c.entry_offset.ensures refl c.requires.opened.spells.spelled.fits.name wrote.writes c.shrink.ensures.shrinks
 
-pub returns-clause-loan : goal.returns-clause-loan
-returns-clause-loan c = keeps_then _ _ _ (keeps_then _ _ _ (keeps_then _ _ _ c.slide_entries.ensures.loan c.put_entry_count.ensures.loan) c.put_modification_number.ensures.loan) c.shrink.ensures.loan
+pub returns-clause-kept : goal.returns-clause-kept
+returns-clause-kept c =
+    let count = c.put_entry_count.ensures.kept in
+    let fields = writes_then _ _ _ count c.put_modification_number.ensures.kept in
+    let slid = slides_then _ _ _ c.slide_entries.ensures.kept (none_slid _ _ fields) in
+    slides_then _ _ _ slid c.shrink.ensures.kept

@@ -3,7 +3,7 @@ use Rattle.std.proofs.Common.{◌≤◌, ◌<◌, ℕ, length, sym, subst}
 use Rattle.heap_model.specs.Lists.{moved}
 use Rattle.heap_model.specs.Database.{Database}
 use Rattle.heap_model.specs.Leaving.{Respells, database_here}
-use Rattle.laws_heap.proofs.KeptLoans.{keeps_then}
+use Rattle.database_edits.proofs.Kept.{slides_then, none_slid}
 use Rattle.database_edits.specs.Edits.{counted, entry_moved}
 use Rattle.database_edits.proofs.RaisedNumbers.{respells_twice}
 use Rattle.database_edits.proofs.replacement.move_entry.Goals as goal
@@ -20,5 +20,6 @@ returns-clause-moved c =
     respells_twice c.args.heap.now.bytes c.count_change.new.heap.bytes c.move_entry.new.heap.bytes c.args.opened.db.0 (counted d) (entry_moved c.args.from c.args.to d) c.requires.opened.spells c.count_change.ensures.counted
     (subst (λ (e : Database ℕ). Respells c.count_change.new.heap.bytes c.move_entry.new.heap.bytes c.args.opened.db.0 (record e { entries = moved e.entries c.args.from c.args.to })) c.count_change.ensures.now c.move_entry.ensures.respells)
 
-pub returns-clause-loan : goal.returns-clause-loan
-returns-clause-loan c = keeps_then _ _ _ c.count_change.ensures.loan c.move_entry.ensures.loan
+pub returns-clause-kept : goal.returns-clause-kept
+returns-clause-kept c =
+    slides_then _ _ _ (none_slid _ _ c.count_change.ensures.kept) c.move_entry.ensures.kept

@@ -4,7 +4,7 @@ use Rattle.heap_model.specs.Database.{Entry, Database, has_resources}
 use Rattle.heap_model.specs.Leaving.{Respells, database_here}
 use Rattle.db_format.specs.EitherEntry.{entry_of}
 use Rattle.db_format.specs.Entries.{with_entry}
-use Rattle.laws_heap.proofs.KeptLoans.{keeps_then}
+use Rattle.database_edits.proofs.Kept.{writes_then}
 use Rattle.database_edits.specs.Edits.{counted_if, entry_written}
 use Rattle.database_edits.proofs.RaisedNumbers.{respells_twice, counted_entries, counted_attributes, counted_entry}
 use Rattle.database_edits.proofs.replacement.write_entry.Goals as goal
@@ -26,5 +26,6 @@ returns-clause-written c =
     (subst (λ (e : Database ℕ). Respells c.count_change_if.new.heap.bytes c.write_entry.new.heap.bytes c.args.opened.db.0 e)
     (ap (λ (e : Database ℕ). with_entry e c.args.index entry) c.count_change_if.ensures.now ∙ counted_entry c.args.counts c.args.index entry d) c.write_entry.ensures.respells)
 
-pub returns-clause-loan : goal.returns-clause-loan
-returns-clause-loan c = keeps_then _ _ _ c.count_change_if.ensures.loan c.write_entry.ensures.loan
+pub returns-clause-kept : goal.returns-clause-kept
+returns-clause-kept c =
+    writes_then _ _ _ c.count_change_if.ensures.kept c.write_entry.ensures.kept

@@ -1,8 +1,9 @@
+-- Each turn deletes the next record of the category.
 use Rattle.std.proofs.Common.{◌≡◌, ◌∙◌, length, Option, refl, ap, arith}
 use Rattle.heap_model.specs.Store.{StoredDatabase, store_of}
 use Rattle.heap_model.specs.EntrySteps.{entries_of, entries_in}
-use Rattle.laws_heap.proofs.KeptLoans.{keeps_itself, keeps_then}
-use Rattle.laws_store.proofs.CallSteps.{kept_then}
+use Rattle.laws_heap.proofs.KeptLoans.{keeps_itself}
+use Rattle.palm_store.proofs.Rests.{writes_then}
 use Rattle.palm_store.proofs.EntriesHere.{count_fits}
 use Rattle.palm_store.proofs.OpenedEntries.{here}
 use Rattle.record_db.proofs.CategoryTurns.{deleted_none, deleted_next, deleted_all, first_inside, kind_there, passed_to, passed_all, next_unlocked, within_some}
@@ -16,8 +17,7 @@ loop-index-init c =
       within = omega arith;
       opened = c.requires.opened;
       none_made = λ name there. there;
-      loan = keeps_itself c.args.store.now;
-      rest = refl;
+      kept = record { loan = keeps_itself c.args.store.now; rest = refl };
     }
 
 pub next_of-requires-clause-records : goal.next_of-requires-clause-records
@@ -59,8 +59,8 @@ loop-index-preserved c =
       within = omega (arith, count, below);
       opened = c.entry_free_data.ensures.opened;
       none_made = λ name there. c.loop-index.invariant.none_made name (c.entry_free_data.ensures.none_made name there);
-      loan = keeps_then c.args.store.now c.loop-index.store c.entry_free_data.new.self c.loop-index.invariant.loan c.entry_free_data.ensures.loan;
-      rest = kept_then c.args.store.now c.loop-index.store c.entry_free_data.new.self c.loop-index.invariant.rest c.entry_free_data.ensures.rest;
+      kept = writes_then c.args.store.now c.loop-index.store c.entry_free_data.new.self
+          c.loop-index.invariant.kept c.entry_free_data.ensures.kept;
     }
 
 pub loop-index-smaller : goal.loop-index-smaller

@@ -1,9 +1,9 @@
 -- The records of the category before the index where the search goes on are deleted. Nothing else
 -- has changed.
-use Rattle.std.proofs.Common.{◌≡◌, ◌≤◌, ◌-◌, length}
-use Rattle.heap_model.specs.Lending.{KeepsLoan}
+use Rattle.std.proofs.Common.{◌≤◌, ◌-◌, length}
 use Rattle.heap_model.specs.Store.{store_of}
 use Rattle.heap_model.specs.EntrySteps.{entries_in, MakesNone}
+use Rattle.palm_store.specs.EntryCalls.{OnlyWrites}
 use Rattle.palm_store.specs.Opened.{IsOpened}
 use Rattle.record_db.proofs.CategoryTurns.{HasDeletedSome}
 use Rattle.record_db.proofs.categories.delete_all_of.Given as goal
@@ -14,8 +14,7 @@ invariant-loop-index l = record {
   within : l.from ≤ length (entries_in (store_of l.initial.store.bytes) l.opened.db);
   opened : IsOpened l.store.bytes l.opened;
   none_made : MakesNone l.initial.store.bytes l.store.bytes;
-  loan : KeepsLoan l.initial.store l.store;
-  rest : l.store ≡ record l.initial.store { bytes = l.store.bytes };
+  kept : OnlyWrites l.initial.store l.store;
 }
 
 abbrev pub decreases-loop-index : goal.decreases-loop-index

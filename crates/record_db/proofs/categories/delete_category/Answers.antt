@@ -1,3 +1,4 @@
+-- The records of the category are deleted, and then the call is counted.
 use Rattle.std.proofs.Common.{refl, inl, inr}
 use Rattle.heap_model.specs.Store.{store_of}
 use Rattle.heap_model.specs.RecordSteps.{category_deleted}
@@ -5,8 +6,8 @@ use Rattle.heap_model.specs.declared.call.Call.TheVariants as calls
 use Rattle.heap_model.specs.declared.call.RecordCall.TheVariants.{DeleteCategory}
 use Rattle.heap_model.specs.declared.call.Reply.TheVariants.{Done}
 use Rattle.heap_model.specs.declared.refusal.Refusal.TheVariants.{ChunkLocked}
-use Rattle.laws_heap.proofs.KeptLoans.{keeps_then}
-use Rattle.laws_store.proofs.CallSteps.{refused, changes, kept_then}
+use Rattle.laws_store.proofs.CallSteps.{refused, changes}
+use Rattle.palm_store.proofs.Rests.{writes_then}
 use Rattle.palm_store.proofs.TwoChanges.{raised_after}
 use Rattle.record_db.proofs.categories.delete_category.Goals as goal
 
@@ -27,5 +28,7 @@ pub returns-clause-does : goal.returns-clause-does
 returns-clause-does c =
     let none = c.in_ok-opened.ensures.passes in
     let leaves = raised_after c.args.store.now.bytes c.delete_all_of.new.store.bytes c.count_change.new.self.bytes c.args.db (category_deleted (store_of c.args.store.now.bytes) c.args.db c.args.category) (rw (← c.in_ok-opened.ensures.db) c.delete_all_of.ensures.deleted) (rw (← c.in_ok-opened.ensures.db) c.count_change.ensures.counted) c.count_change.ensures.none_made in
+    let kept = writes_then c.args.store.now c.delete_all_of.new.store c.count_change.new.self
+    c.delete_all_of.ensures.kept c.count_change.ensures.kept in
     changes c.args.store.now c.count_change.new.self (calls.Record (DeleteCategory c.args.db c.args.category)) Done _ (λ slots. refl) c.in_ok-opened.ensures.accepted leaves
-    ((none.0, (none.1.0, (none.1.1.0, (c.in_ok-check_category.ensures.passes.0, ((λ is. (let found = c.has_locked_of.ensures.1 (rw c.in_ok-opened.ensures.db is) in let no_one = c.if-has_locked_of.false in absurd cc)), tt))))), (tt, leaves.same)) (keeps_then c.args.store.now c.delete_all_of.new.store c.count_change.new.self c.delete_all_of.ensures.loan c.count_change.ensures.loan) tt (kept_then c.args.store.now c.delete_all_of.new.store c.count_change.new.self c.delete_all_of.ensures.rest c.count_change.ensures.rest)
+    ((none.0, (none.1.0, (none.1.1.0, (c.in_ok-check_category.ensures.passes.0, ((λ is. (let found = c.has_locked_of.ensures.1 (rw c.in_ok-opened.ensures.db is) in let no_one = c.if-has_locked_of.false in absurd cc)), tt))))), (tt, leaves.same)) kept.loan tt kept.rest

@@ -1,3 +1,4 @@
+-- The attributes are changed, and then the call is counted.
 use Rattle.std.proofs.Common.{refl, map}
 use Rattle.heap_model.specs.Store.{store_of}
 use Rattle.heap_model.specs.EntrySteps.{with_entries}
@@ -5,10 +6,10 @@ use Rattle.heap_model.specs.Categories.{moved_category}
 use Rattle.heap_model.specs.declared.call.Call.TheVariants as calls
 use Rattle.heap_model.specs.declared.call.RecordCall.TheVariants.{MoveCategory}
 use Rattle.heap_model.specs.declared.call.Reply.TheVariants.{Done}
-use Rattle.laws_heap.proofs.KeptLoans.{keeps_then}
-use Rattle.laws_store.proofs.CallSteps.{changes, kept_then}
+use Rattle.laws_store.proofs.CallSteps.{changes}
 use Rattle.palm_store.proofs.OpenedEntries.{here}
 use Rattle.record_db.proofs.Moved.{below_categories, may_move, category_moved}
+use Rattle.palm_store.proofs.Rests.{writes_then}
 use Rattle.palm_store.proofs.TwoChanges.{raised_after}
 use Rattle.record_db.proofs.categories.move_category.Goals as goal
 
@@ -22,5 +23,7 @@ returns-clause-does c =
     let none = c.in_ok-opened.ensures.passes in
     let moved = category_moved c.args.store.now.bytes c.change_attributes.new.self.bytes c.args.db c.args.to c.args.from c.args.dirty h c.in_ok-opened.ensures.accepted (rw (← c.in_ok-opened.ensures.db) c.change_attributes.ensures.changed) in
     let leaves = raised_after c.args.store.now.bytes c.change_attributes.new.self.bytes c.count_change.new.self.bytes c.args.db (with_entries (store_of c.args.store.now.bytes) c.args.db (map (moved_category c.args.to c.args.from c.args.dirty))) moved (rw (← c.in_ok-opened.ensures.db) c.count_change.ensures.counted) c.count_change.ensures.none_made in
+    let kept = writes_then c.args.store.now c.change_attributes.new.self c.count_change.new.self
+    c.change_attributes.ensures.kept c.count_change.ensures.kept in
     changes c.args.store.now c.count_change.new.self (calls.Record (MoveCategory c.args.db c.args.to c.args.from c.args.dirty)) Done _ (λ slots. refl) c.in_ok-opened.ensures.accepted leaves
-    ((none.0, (none.1.0, (none.1.1.0, (c.in_ok-check_category.ensures.passes.0, (c.in_ok-check_category-2.ensures.passes.0, tt))))), (tt, leaves.same)) (keeps_then c.args.store.now c.change_attributes.new.self c.count_change.new.self c.change_attributes.ensures.loan c.count_change.ensures.loan) tt (kept_then c.args.store.now c.change_attributes.new.self c.count_change.new.self c.change_attributes.ensures.rest c.count_change.ensures.rest)
+    ((none.0, (none.1.0, (none.1.1.0, (c.in_ok-check_category.ensures.passes.0, (c.in_ok-check_category-2.ensures.passes.0, tt))))), (tt, leaves.same)) kept.loan tt kept.rest

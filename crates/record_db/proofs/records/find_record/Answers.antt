@@ -1,3 +1,4 @@
+-- The entry of a record database is a record.
 use Rattle.std.proofs.Common.{sym, ap, subst, ◌∙◌}
 use Rattle.std.specs.Prelude.{is_some}
 use Rattle.palm_store.specs.Checks.{IsTold}
@@ -5,8 +6,8 @@ use Rattle.palm_store.proofs.OpenedEntries.{records_told, as_record_told}
 use Rattle.record_db.proofs.records.find_record.Goals as goal
 
 pub unwrap-requires : goal.unwrap-requires
-unwrap-requires c = ap is_some c.as_record.ensures ∙ records_told c.in_ok-found.found.entry c.in_ok-found.ensures.of_kind
+unwrap-requires c = ap is_some c.as_record.ensures ∙ records_told c.in_ok-found.found.item c.in_ok-found.ensures.of_kind
 
 pub returns-clause-is : goal.returns-clause-is
 returns-clause-is c =
-    subst (IsTold c.args.store.now.bytes c.args.db c.args.index) (as_record_told c.in_ok-found.found.entry c.unwrap.result (sym c.as_record.ensures ∙ c.unwrap.ensures)) c.in_ok-found.ensures.is
+    subst (IsTold c.args.store.now.bytes c.args.db c.args.index) (as_record_told c.in_ok-found.found.item c.unwrap.result (sym c.as_record.ensures ∙ c.unwrap.ensures)) c.in_ok-found.ensures.is

@@ -1,3 +1,4 @@
+-- The call is refused if the data is locked. Otherwise it drops the entry.
 use Rattle.std.proofs.Common.{refl, sym, ap, subst, inl, inr}
 use Rattle.heap_model.specs.Database.{a_resource}
 use Rattle.heap_model.specs.EntrySteps.{data_of_entry, entry_dropped, raised}
@@ -15,8 +16,8 @@ use Rattle.resource_db.proofs.changing.remove_resource.Goals as goal
 pub is_locked-requires : goal.is_locked-requires
 is_locked-requires c =
     let found = c.in_ok-resource.ensures in
-    let info = c.in_ok-resource.resource.info in
-    data_named c.args.store.now.bytes c.args.db c.args.index (a_resource info.kind info.id info.«data».0) found.accepted found.known found.is found.some
+    let info = c.in_ok-resource.resource.item in
+    data_named c.args.store.now.bytes c.args.db c.args.index (a_resource info.kind info.id info.«data».0) found.accepted found.found.known found.is found.some
 
 pub returns-then-is_locked-clause-does : goal.returns-then-is_locked-clause-does
 returns-then-is_locked-clause-does c =
@@ -28,7 +29,7 @@ returns-then-is_locked-clause-does c =
 
 pub entry_drop-requires-clause-unlocked : goal.entry_drop-requires-clause-unlocked
 entry_drop-requires-clause-unlocked c =
-    rw c.in_ok-resource.ensures.db (λ locked.
+    rw c.in_ok-resource.ensures.found.db (λ locked.
     (let yes = c.is_locked.ensures.1 (subst (IsLockedChunk c.args.store.now.bytes) (ap data_of_entry c.in_ok-resource.ensures.is) locked) in
     let no = c.if-is_locked.false in
     absurd cc))
@@ -37,7 +38,7 @@ pub returns-clause-does : goal.returns-clause-does
 returns-clause-does c =
     let found = c.in_ok-resource.ensures in
     let none = found.passes in
-    let leaves = subst (λ (db : Db). LeavesChanged c.args.store.now c.entry_drop.new.self (λ store. raised (entry_dropped store db c.args.index) db)) found.db c.entry_drop.ensures.dropped in
+    let leaves = subst (λ (db : Db). LeavesChanged c.args.store.now c.entry_drop.new.self (λ store. raised (entry_dropped store db c.args.index) db)) found.found.db c.entry_drop.ensures.dropped in
     changes c.args.store.now c.entry_drop.new.self (calls.Resource (Remove c.args.db c.args.index)) Done _ (λ slots. refl) found.accepted leaves (
       (
         none.0,
@@ -57,4 +58,4 @@ returns-clause-does c =
         ),
       ),
       (tt, leaves.same),
-    ) c.entry_drop.ensures.loan tt c.entry_drop.ensures.rest
+    ) c.entry_drop.ensures.kept.loan tt c.entry_drop.ensures.kept.rest

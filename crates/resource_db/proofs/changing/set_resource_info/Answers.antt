@@ -1,3 +1,4 @@
+-- The resource keeps its data, and only its type and ID change.
 use Rattle.std.proofs.Common.{refl, true}
 use Rattle.heap_model.specs.Database.{a_resource}
 use Rattle.heap_model.specs.ResourceSteps.{with_type_and_id}
@@ -13,7 +14,7 @@ use Rattle.resource_db.proofs.changing.set_resource_info.Goals as goal
 pub returns-clause-does : goal.returns-clause-does
 returns-clause-does c =
     let found = c.in_ok-resource.ensures in
-    let info = c.in_ok-resource.resource.info in
+    let info = c.in_ok-resource.resource.item in
     let leaves = set_as true c.args.store.now.bytes c.entry_set.new.self.bytes c.args.db c.args.index (a_resource info.kind info.id info.«data».0) (with_info (infos.Resource c.args.kind c.args.id)) (with_type_and_id c.args.kind c.args.id)
-    found.accepted found.known found.is refl (rw (← c.in_ok-resource.ensures.db) c.entry_set.ensures.set) in
-    changes c.args.store.now c.entry_set.new.self (calls.Resource (SetInfo c.args.db c.args.index c.args.kind c.args.id)) Done _ (λ slots. refl) found.accepted leaves (found.passes, (tt, leaves.same)) c.entry_set.ensures.loan tt c.entry_set.ensures.rest
+    found.accepted found.found.known found.is refl (rw (← c.in_ok-resource.ensures.found.db) c.entry_set.ensures.set) in
+    changes c.args.store.now c.entry_set.new.self (calls.Resource (SetInfo c.args.db c.args.index c.args.kind c.args.id)) Done _ (λ slots. refl) found.accepted leaves (found.passes, (tt, leaves.same)) c.entry_set.ensures.kept.loan tt c.entry_set.ensures.kept.rest

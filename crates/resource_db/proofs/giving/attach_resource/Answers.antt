@@ -14,7 +14,7 @@ use Rattle.heap_model.specs.declared.names.Db.{Db}
 use Rattle.heap_model.specs.declared.refusal.Refusal.{Refusal}
 use Rattle.laws_store.proofs.CallSteps.{refused, handed_on, changes}
 use Rattle.palm_store.specs.EntryCalls.{checks_of_attaching, LeavesAttached, LeavesChanged}
-use Rattle.palm_store.specs.declared.entries.infos.NewEntry.TheVariants as given_as
+use Rattle.palm_store.specs.declared.entries.infos.EntryInfo.TheVariants as given_as
 use Rattle.resource_db.proofs.giving.attach_resource.Goals as goal
 
 pub returns-in_err-entry_attach-clause-does : goal.returns-in_err-entry_attach-clause-does
@@ -39,4 +39,4 @@ returns-clause-does c =
     let leaves = subst (λ (entry : Entry ℕ). LeavesChanged c.args.store.now c.entry_attach.new.self (λ store. raised (entry_attached store c.args.db c.in_ok-opened.opened.entry_count entry) c.args.db)) attached.1 attached.2 in
     let last = subst (λ (index : ℕ). LeavesChanged c.args.store.now c.entry_attach.new.self (λ store. raised (entry_attached store c.args.db index (a_resource c.args.kind c.args.id c.args.name.0)) c.args.db)) at leaves in
     changes c.args.store.now c.entry_attach.new.self (calls.Resource (Attach c.args.db c.args.kind c.args.id c.args.name)) (Number c.in_ok-opened.opened.entry_count) _ (λ slots. refl) c.in_ok-opened.ensures.accepted last
-    ((none.0, (none.1.0, (none.1.1.0, (given.0, (given.1.0, (given.1.1.0, could)))))), (at, last.same)) c.entry_attach.ensures.loan tt c.entry_attach.ensures.rest
+    ((none.0, (none.1.0, (none.1.1.0, (given.0, (given.1.0, (given.1.1.0, could)))))), (at, last.same)) c.entry_attach.ensures.kept.loan tt c.entry_attach.ensures.kept.rest

@@ -1,4 +1,5 @@
 -- The header names the chunk first, and then that is given to the database.
+use Rattle.std.proofs.Common.{rules}
 use Rattle.palm_store.proofs.EntriesHere.{opened_here}
 use Rattle.palm_store.proofs.GivenData.{given, given_kept, given_movable, given_no_directory, written_then_owned, owned_none}
 use Rattle.palm_store.proofs.InfoBlocks.{set_block_steps}
@@ -28,5 +29,9 @@ returns-clause-none_made c =
     owned_none c.args.heap.now.bytes c.sys_set_owner.new.self.bytes c.args.opened.db.0 c.args.name.0 15 _ g.live c.requires.accepted c.requires.opened.number g.there
     (written_then_owned c.args.heap.now.bytes c.write_block.new.heap.bytes c.sys_set_owner.new.self.bytes c.args.opened.db.0 c.args.name.0 15 _ c.write_block.ensures.written c.sys_set_owner.ensures.leaves)
 
-pub returns-clause-loan : goal.returns-clause-loan
-returns-clause-loan c = keeps_then c.args.heap.now c.write_block.new.heap c.sys_set_owner.new.self c.write_block.ensures.loan c.sys_set_owner.ensures.loan
+pub returns-clause-kept : goal.returns-clause-kept
+returns-clause-kept c = record {
+  loan = keeps_then c.args.heap.now c.write_block.new.heap c.sys_set_owner.new.self
+      c.write_block.ensures.kept.loan c.sys_set_owner.ensures.loan;
+  rest = search rules;
+}

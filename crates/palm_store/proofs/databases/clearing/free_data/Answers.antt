@@ -2,16 +2,16 @@
 -- still there.
 use Rattle.std.proofs.Common.{◌+◌, refl, sym, subst, ◌∙◌, ◌≡◌, ◌<◌, ℕ, List, length}
 use Rattle.heap_model.specs.Database.{IsSpelled, database_in, data_in}
-use Rattle.laws_store.proofs.CallSteps.{kept_then}
 use Rattle.mem_manager.proofs.StoreCalls.{stands_still}
 use Rattle.palm_store.proofs.Numbers.{number_spelled}
 use Rattle.palm_store.proofs.NamedChunks.{freed_none, freed_one, freed_next, named_at, header_held, header_owner, header_like, slot_left, slot_unlocked, slot_other}
-use Rattle.laws_heap.proofs.KeptLoans.{keeps_itself, keeps_then}
+use Rattle.laws_heap.proofs.KeptLoans.{keeps_itself}
 use Rattle.palm_store.proofs.Loans.{managers_here}
+use Rattle.database_edits.proofs.Kept.{writes_then}
 use Rattle.palm_store.proofs.databases.clearing.free_data.Goals as goal
 
 pub loop-index-init : goal.loop-index-init
-loop-index-init c = record { leaves = freed_none c.args.heap.now.bytes c.requires.accepted.heap; stands = c.requires.opened.chunk; loan = keeps_itself c.args.heap.now; rest = refl }
+loop-index-init c = record { leaves = freed_none c.args.heap.now.bytes c.requires.accepted.heap; stands = c.requires.opened.chunk; kept = record { loan = keeps_itself c.args.heap.now; rest = refl } }
 
 pub slot_at-slot-requires-clause-spelled : goal.slot_at-slot-requires-clause-spelled
 slot_at-slot-requires-clause-spelled c =
@@ -53,8 +53,8 @@ loop-index-preserved c =
       stands = stands_still c.loop-index.heap.bytes c.free_chunk_of.new.heap.bytes c.args.opened.db.0 c.args.opened.chunk c.loop-index.invariant.leaves.frame.accepted next.frame.accepted c.loop-index.invariant.stands
           (header_held c.args.heap.now.bytes c.free_chunk_of.new.heap.bytes c.args.opened.db.0 (c.loop-index.index + 1) c.requires.accepted c.requires.opened.number next
           ∙ sym (header_held c.args.heap.now.bytes c.loop-index.heap.bytes c.args.opened.db.0 c.loop-index.index c.requires.accepted c.requires.opened.number c.loop-index.invariant.leaves)) c.free_chunk_of.ensures.unmoved;
-      loan = keeps_then c.args.heap.now c.loop-index.heap c.free_chunk_of.new.heap c.loop-index.invariant.loan c.free_chunk_of.ensures.loan;
-      rest = kept_then c.args.heap.now c.loop-index.heap c.free_chunk_of.new.heap c.loop-index.invariant.rest c.free_chunk_of.ensures.rest;
+      kept = writes_then c.args.heap.now c.loop-index.heap c.free_chunk_of.new.heap
+          c.loop-index.invariant.kept c.free_chunk_of.ensures.kept;
     }
 
 pub sys_body_found-requires-clause-here : goal.sys_body_found-requires-clause-here

@@ -1,7 +1,7 @@
 -- The chunks of the slots that were passed are freed, and nothing else has changed.
-use Rattle.std.proofs.Common.{◌≡◌, take}
+use Rattle.std.proofs.Common.{take}
 use Rattle.heap_model.specs.Leaving.{Leaves}
-use Rattle.heap_model.specs.Lending.{KeepsLoan}
+use Rattle.database_edits.specs.Kept.{OnlyWrites}
 use Rattle.heap_model.specs.Reading.{held}
 use Rattle.heap_model.specs.StoreWords.{all_gone}
 use Rattle.mem_manager.specs.Lookup.{StandsAs}
@@ -12,6 +12,5 @@ abbrev pub invariant-loop-index : goal.invariant-loop-index
 invariant-loop-index l = record {
   leaves : Leaves l.fn.heap.bytes l.heap.bytes (all_gone (held l.fn.heap.bytes) (take l.index (named_under l.fn.heap.bytes l.opened.db.0)));
   stands : StandsAs l.heap.bytes l.opened.db.0 l.opened.chunk;
-  loan : KeepsLoan l.fn.heap l.heap;
-  rest : l.heap ≡ record l.fn.heap { bytes = l.heap.bytes };
+  kept : OnlyWrites l.fn.heap l.heap;
 }

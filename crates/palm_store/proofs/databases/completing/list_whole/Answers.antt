@@ -1,6 +1,6 @@
 -- The header's chunk is made, then the data, and then the slot is listed; or all of it is freed
 -- again.
-use Rattle.std.proofs.Common.{refl, sym, subst, ◌≤◌, ◌∙◌, List, length, ℕ}
+use Rattle.std.proofs.Common.{refl, sym, subst, ◌≤◌, ◌∙◌, List, length, ℕ, rules}
 use Rattle.palm_store.specs.WholeDatabases.{data_sizes, numbers_in}
 use Rattle.palm_store.proofs.ListedSlots.{few_bytes, made_directory, made_movable, fresh_apart}
 use Rattle.palm_store.proofs.WholeChunks.{no_rest_room, listed_whole}
@@ -34,8 +34,16 @@ pub sys_free-requires-clause-here : goal.sys_free-requires-clause-here
 sys_free-requires-clause-here c =
     owned_here c.make_data_and_list.new.heap c.in_ok-slot.slot.0 _ (c.in-Err.ensures.refused.map c.in_ok-slot.slot.0 ∙ made_here c.args.heap.now.bytes c.sys_new.new.self.bytes c.in_ok-slot.slot.0 c.args.size c.in_ok-slot.ensures.made) refl
 
-pub returns-clause-loan : goal.returns-clause-loan
-returns-clause-loan c = keeps_then c.args.heap.now c.sys_new.new.self c.make_data_and_list.new.heap c.sys_new.ensures.loan c.make_data_and_list.ensures.loan
+pub returns-clause-kept : goal.returns-clause-kept
+returns-clause-kept c = record {
+  loan = keeps_then c.args.heap.now c.sys_new.new.self c.make_data_and_list.new.heap
+      c.sys_new.ensures.loan c.make_data_and_list.ensures.kept.loan;
+  rest = search rules;
+}
 
-pub returns-in-Err-clause-loan : goal.returns-in-Err-clause-loan
-returns-in-Err-clause-loan c = keeps_then _ _ _ (keeps_then _ _ _ c.sys_new.ensures.loan c.make_data_and_list.ensures.loan) c.sys_free.ensures.loan
+pub returns-in-Err-clause-kept : goal.returns-in-Err-clause-kept
+returns-in-Err-clause-kept c = record {
+  loan = keeps_then _ _ _ (keeps_then _ _ _ c.sys_new.ensures.loan
+      c.make_data_and_list.ensures.kept.loan) c.sys_free.ensures.loan;
+  rest = search rules;
+}

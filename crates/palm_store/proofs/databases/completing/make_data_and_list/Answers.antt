@@ -6,11 +6,11 @@ use Rattle.heap_model.specs.Reading.{held}
 use Rattle.heap_model.specs.StoreWords.{all_gone}
 use Rattle.laws_heap.proofs.Results.{on_err}
 use Rattle.heap_model.specs.FileSteps.{makings, listing_part, listing_slots}
-use Rattle.laws_heap.proofs.KeptLoans.{keeps_then}
 use Rattle.palm_store.specs.WholeDatabases.{data_sizes, numbers_in, AreOwnChunks}
 use Rattle.palm_store.proofs.GainedChunks.{own_chunks, taken_back}
 use Rattle.palm_store.proofs.WholeRooms.{runs_more}
 use Rattle.palm_store.proofs.WholeChunks.{keeps_makes, same_bytes, no_listing_then}
+use Rattle.database_edits.proofs.Kept.{slides_then, none_slid}
 use Rattle.palm_store.proofs.databases.completing.make_data_and_list.Goals as goal
 
 pub returns-in_err-make_data-clause-no_room : goal.returns-in_err-make_data-clause-no_room
@@ -35,8 +35,11 @@ returns-in-Err-clause-refused c =
     let back = subst (λ (m : Memory). Leaves m.bytes c.free_named.new.heap.bytes (all_gone (held m.bytes) (numbers_in c.make_data.new.names))) c.in-Err.ensures.refused c.free_named.ensures.leaves in
     taken_back c.args.heap.now.bytes c.make_data.new.heap.bytes c.free_named.new.heap.bytes _ _ c.requires.heap c.in_ok-make_data.ensures.made back
 
-pub returns-in-Err-clause-loan : goal.returns-in-Err-clause-loan
-returns-in-Err-clause-loan c = keeps_then _ _ _ (keeps_then _ _ _ c.make_data.ensures.loan c.list_last.ensures.loan) c.free_named.ensures.loan
+pub returns-in-Err-clause-kept : goal.returns-in-Err-clause-kept
+returns-in-Err-clause-kept c =
+    let made = slides_then _ _ _ c.make_data.ensures.kept c.list_last.ensures.kept in
+    slides_then _ _ _ made (none_slid _ _ c.free_named.ensures.kept)
 
-pub returns-clause-loan : goal.returns-clause-loan
-returns-clause-loan c = keeps_then _ _ _ c.make_data.ensures.loan c.list_last.ensures.loan
+pub returns-clause-kept : goal.returns-clause-kept
+returns-clause-kept c =
+    slides_then _ _ _ c.make_data.ensures.kept c.list_last.ensures.kept

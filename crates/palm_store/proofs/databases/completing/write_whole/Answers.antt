@@ -1,5 +1,5 @@
 -- The header is written at the front, and then the entries after it.
-use Rattle.std.proofs.Common.{sym, ap, subst, ◌∙◌, ◌≡◌, ◌++◌, ℕ, List, length, drop, arith}
+use Rattle.std.proofs.Common.{sym, ap, subst, ◌∙◌, ◌≡◌, ◌++◌, ℕ, List, length, drop, arith, rules}
 use Rattle.std.specs.List.{flat_map}
 use Rattle.heap_model.specs.Database.{Database, entry_bytes, header_bytes, entry_offset}
 use Rattle.heap_model.specs.Leaving.{Leaves, rewritten}
@@ -53,5 +53,8 @@ returns-clause-fits c =
 pub sys_write-requires-clause-here : goal.sys_write-requires-clause-here
 sys_write-requires-clause-here c = managers_here c.args.heap.now c.args.slot.0 c.requires.owner
 
-pub returns-clause-loan : goal.returns-clause-loan
-returns-clause-loan c = keeps_then _ _ _ c.sys_write.ensures.loan c.write_entries.ensures.loan
+pub returns-clause-kept : goal.returns-clause-kept
+returns-clause-kept c = record {
+  loan = keeps_then _ _ _ c.sys_write.ensures.loan c.write_entries.ensures.kept.loan;
+  rest = search rules;
+}

@@ -1,5 +1,5 @@
 -- The directory that was made has four bytes, over which the slot's are written.
-use Rattle.std.proofs.Common.{refl, ap, ◌∙◌, arith, ℕ, length, replicate, ◌≡◌}
+use Rattle.std.proofs.Common.{refl, ap, ◌∙◌, arith, ℕ, length, replicate, ◌≡◌, rules}
 use Rattle.std.proofs.lemmas.List.{length-replicate}
 use Rattle.heap_model.specs.Bytes.{overwritten}
 use Rattle.laws_heap.proofs.Frames.{length-u32_bytes}
@@ -33,7 +33,10 @@ returns-clause-lists c = begun c.args.heap.now.bytes c.sys_new.new.self.bytes c.
 pub sys_write-requires-clause-here : goal.sys_write-requires-clause-here
 sys_write-requires-clause-here c = owned_here c.sys_new.new.self c.in_ok-directory.directory.0 (chunk_of (replicate 4 0)) (made_here c.args.heap.now.bytes c.sys_new.new.self.bytes c.in_ok-directory.directory.0 4 c.in_ok-directory.ensures.made) refl
 
-pub returns-clause-loan : goal.returns-clause-loan
-returns-clause-loan c =
-    keeps_then c.args.heap.now c.sys_write.new.self c.set_directory.new.self
-    (keeps_then c.args.heap.now c.sys_new.new.self c.sys_write.new.self c.sys_new.ensures.loan c.sys_write.ensures.loan) c.set_directory.ensures.loan
+pub returns-clause-kept : goal.returns-clause-kept
+returns-clause-kept c = record {
+  loan = keeps_then c.args.heap.now c.sys_write.new.self c.set_directory.new.self
+      (keeps_then c.args.heap.now c.sys_new.new.self c.sys_write.new.self c.sys_new.ensures.loan
+      c.sys_write.ensures.loan) c.set_directory.ensures.loan;
+  rest = search rules;
+}

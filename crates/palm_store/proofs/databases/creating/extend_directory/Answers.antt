@@ -1,6 +1,6 @@
 -- The directory has no lock, so that only lack of room keeps it from growing; the slot's bytes are
 -- written over the last four.
-use Rattle.std.proofs.Common.{refl, ap, arith, ◌≡◌, ◌+◌, length}
+use Rattle.std.proofs.Common.{refl, ap, arith, ◌≡◌, ◌+◌, length, rules}
 use Rattle.heap_model.specs.Chunk.{need}
 use Rattle.heap_model.specs.Heap.{directory_of}
 use Rattle.heap_model.specs.Space.{ShortFor}
@@ -60,5 +60,9 @@ sys_write-requires-clause-here c =
     let o = the_directory c.args.heap.now.bytes c.directory-directory.result.0 c.requires.heap c.requires.some c.directory-directory.ensures in
     owned_here c.sys_resize.new.self c.directory-directory.result.0 _ (sized_here c.args.heap.now.bytes c.sys_resize.new.self.bytes c.directory-directory.result.0 (length c.sys_body_found.result.now + 4) o.live c.in_ok-sys_resize.ensures.done o.there) o.own
 
-pub returns-clause-loan : goal.returns-clause-loan
-returns-clause-loan c = keeps_then c.args.heap.now c.sys_resize.new.self c.sys_write.new.self c.sys_resize.ensures.loan c.sys_write.ensures.loan
+pub returns-clause-kept : goal.returns-clause-kept
+returns-clause-kept c = record {
+  loan = keeps_then c.args.heap.now c.sys_resize.new.self c.sys_write.new.self
+      c.sys_resize.ensures.loan c.sys_write.ensures.loan;
+  rest = search rules;
+}

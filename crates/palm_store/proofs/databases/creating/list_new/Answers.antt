@@ -1,5 +1,5 @@
 -- A header's chunk is made, and then listed; or freed again, and then all is held that was held.
-use Rattle.std.proofs.Common.{refl, sym, subst, ℕ, List, length, ◌≤◌, ◌≢◌}
+use Rattle.std.proofs.Common.{refl, sym, subst, ℕ, List, length, ◌≤◌, ◌≢◌, rules}
 use Rattle.heap_model.specs.Memory.{Memory}
 use Rattle.heap_model.specs.Heap.{directory_of}
 use Rattle.heap_model.specs.Maps.{gone}
@@ -41,10 +41,17 @@ sys_free-requires-clause-here c =
     subst (λ (m : Memory). IsHere m c.in_ok-slot.slot.0) (sym c.in-Err.ensures.refused)
     (owned_here c.sys_new.new.self c.in_ok-slot.slot.0 _ (made_here c.args.heap.now.bytes c.sys_new.new.self.bytes c.in_ok-slot.slot.0 78 c.in_ok-slot.ensures.made) refl)
 
-pub returns-clause-loan : goal.returns-clause-loan
-returns-clause-loan c = keeps_then c.args.heap.now c.sys_new.new.self c.list_last.new.heap c.sys_new.ensures.loan c.list_last.ensures.loan
+pub returns-clause-kept : goal.returns-clause-kept
+returns-clause-kept c = record {
+  loan = keeps_then c.args.heap.now c.sys_new.new.self c.list_last.new.heap
+      c.sys_new.ensures.loan c.list_last.ensures.kept.loan;
+  rest = search rules;
+}
 
-pub returns-in-Err-clause-loan : goal.returns-in-Err-clause-loan
-returns-in-Err-clause-loan c =
-    keeps_then c.args.heap.now c.list_last.new.heap c.sys_free.new.self
-    (keeps_then c.args.heap.now c.sys_new.new.self c.list_last.new.heap c.sys_new.ensures.loan c.list_last.ensures.loan) c.sys_free.ensures.loan
+pub returns-in-Err-clause-kept : goal.returns-in-Err-clause-kept
+returns-in-Err-clause-kept c = record {
+  loan = keeps_then c.args.heap.now c.list_last.new.heap c.sys_free.new.self
+      (keeps_then c.args.heap.now c.sys_new.new.self c.list_last.new.heap c.sys_new.ensures.loan
+      c.list_last.ensures.kept.loan) c.sys_free.ensures.loan;
+  rest = search rules;
+}

@@ -1,5 +1,5 @@
 -- The directory has no lock, and a chunk without one is never refused to shrink.
-use Rattle.std.proofs.Common.{refl, ap, subst, ◌∙◌, ◌≡◌, ◌+◌, ◌-◌, ◌*◌, arith, ℕ, length, Result}
+use Rattle.std.proofs.Common.{refl, ap, subst, ◌∙◌, ◌≡◌, ◌+◌, ◌-◌, ◌*◌, arith, ℕ, length, Result, rules}
 use Rattle.std.specs.Prelude.{OnOk}
 use Rattle.heap_model.specs.Leaving.{Leaves}
 use Rattle.heap_model.specs.Maps.{sized}
@@ -67,5 +67,9 @@ sys_body_found-requires-clause-here c = managers_here c.args.heap.now c.director
 pub sys_slide-requires-clause-here : goal.sys_slide-requires-clause-here
 sys_slide-requires-clause-here c = managers_here c.args.heap.now c.directory-directory.result.0 (directory_owned c.args.heap.now.bytes c.directory-directory.result.0 c.requires.heap c.requires.some c.directory-directory.ensures)
 
-pub returns-clause-loan : goal.returns-clause-loan
-returns-clause-loan c = keeps_then c.args.heap.now c.sys_slide.new.self c.sys_resize.new.self c.sys_slide.ensures.loan c.sys_resize.ensures.loan
+pub returns-clause-kept : goal.returns-clause-kept
+returns-clause-kept c = record {
+  loan = keeps_then c.args.heap.now c.sys_slide.new.self c.sys_resize.new.self
+      c.sys_slide.ensures.loan c.sys_resize.ensures.loan;
+  rest = search rules;
+}

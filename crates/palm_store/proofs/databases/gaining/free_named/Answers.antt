@@ -1,9 +1,8 @@
 -- The next name is that of a chunk that is still there, since no name stands in the list twice.
 use Rattle.std.proofs.Common.{refl}
-use Rattle.laws_store.proofs.CallSteps.{kept_then}
 use Rattle.palm_store.specs.WholeDatabases.{numbers_in}
 use Rattle.palm_store.proofs.GainedChunks.{number_at, own_movable, own_unlocked, own_beside, freed_upto}
-use Rattle.laws_heap.proofs.KeptLoans.{keeps_then}
+use Rattle.database_edits.proofs.Kept.{writes_then}
 use Rattle.palm_store.proofs.databases.gaining.free_named.Goals as goal
 
 pub free_chunk_of-requires-clause-movable : goal.free_chunk_of-requires-clause-movable
@@ -26,6 +25,6 @@ loop-index-preserved c =
     let at = number_at c.args.names.now c.loop-index.index _ c.loop-index-test.true refl in
     record {
       leaves = freed_upto c.args.heap.now.bytes c.loop-index.heap.bytes c.free_chunk_of.new.heap.bytes (numbers_in c.args.names.now) c.loop-index.index _ c.loop-index.invariant.leaves c.free_chunk_of.ensures.leaves at;
-      loan = keeps_then c.args.heap.now c.loop-index.heap c.free_chunk_of.new.heap c.loop-index.invariant.loan c.free_chunk_of.ensures.loan;
-      rest = kept_then c.args.heap.now c.loop-index.heap c.free_chunk_of.new.heap c.loop-index.invariant.rest c.free_chunk_of.ensures.rest;
+      kept = writes_then c.args.heap.now c.loop-index.heap c.free_chunk_of.new.heap
+          c.loop-index.invariant.kept c.free_chunk_of.ensures.kept;
     }

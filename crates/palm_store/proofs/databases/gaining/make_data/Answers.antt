@@ -8,8 +8,7 @@ use Rattle.heap_model.specs.StoreWords.{all_gone}
 use Rattle.heap_model.specs.declared.names.Name.{Name}
 use Rattle.palm_store.specs.WholeDatabases.{size_of_data, data_sizes, numbers_in, AreOwnChunks}
 use Rattle.palm_store.proofs.GainedChunks.{IsSizeAt, own_chunks, taken_back, makes_more, runs_at}
-use Rattle.laws_heap.proofs.KeptLoans.{keeps_then}
-use Rattle.palm_store.proofs.Rests.{moved_then}
+use Rattle.database_edits.proofs.Kept.{slides_then, none_slid}
 use Rattle.palm_store.proofs.databases.gaining.make_data.Goals as goal
 
 pub free_named-requires-clause-own : goal.free_named-requires-clause-own
@@ -42,10 +41,11 @@ loop-index-preserved c =
     record {
       made = makes_more c.args.heap.now.bytes c.loop-index.heap.bytes c.make_sized.new.heap.bytes (data_sizes c.args.blocks c.args.entries.now) c.loop-index.names c.loop-index.index c.size_at.result c.in-Ok.name c.loop-index.invariant.made c.in-Ok.ensures.made at (omega (arith, below, long));
       names = length-set c.loop-index.names c.loop-index.index c.in-Ok.name ∙ long;
-      loan = keeps_then c.args.heap.now c.loop-index.heap c.make_sized.new.heap c.loop-index.invariant.loan c.make_sized.ensures.loan;
-      rest = moved_then c.args.heap.now c.loop-index.heap c.make_sized.new.heap c.loop-index.invariant.rest c.make_sized.ensures.rest;
+      kept = slides_then c.args.heap.now c.loop-index.heap c.make_sized.new.heap
+          c.loop-index.invariant.kept c.make_sized.ensures.kept;
     }
 
-pub returns-in-Err-clause-loan : goal.returns-in-Err-clause-loan
-returns-in-Err-clause-loan c =
-    keeps_then c.args.heap.now c.make_sized.new.heap c.free_named.new.heap (keeps_then c.args.heap.now c.loop-index.heap c.make_sized.new.heap c.loop-index.invariant.loan c.make_sized.ensures.loan) c.free_named.ensures.loan
+pub returns-in-Err-clause-kept : goal.returns-in-Err-clause-kept
+returns-in-Err-clause-kept c =
+    let made = slides_then _ _ _ c.loop-index.invariant.kept c.make_sized.ensures.kept in
+    slides_then _ _ _ made (none_slid _ _ c.free_named.ensures.kept)

@@ -1,6 +1,6 @@
 -- The chunks of the sizes that were passed are made, and their names put down.
 use Rattle.std.proofs.Common.{◌≡◌, length, take}
-use Rattle.heap_model.specs.Lending.{KeepsLoan}
+use Rattle.database_edits.specs.Kept.{OnlySlides}
 use Rattle.palm_store.specs.WholeDatabases.{data_sizes, numbers_in, MakesAll}
 use Rattle.palm_store.proofs.databases.gaining.make_data.Given as goal
 
@@ -8,6 +8,5 @@ abbrev pub invariant-loop-index : goal.invariant-loop-index
 invariant-loop-index l = record {
   made : MakesAll l.fn.heap.bytes l.heap.bytes (take l.index (data_sizes l.blocks l.entries)) (take l.index (numbers_in l.names));
   names : length l.names ≡ length l.fn.names;
-  loan : KeepsLoan l.fn.heap l.heap;
-  rest : l.heap ≡ record l.fn.heap { bytes = l.heap.bytes; slid = l.heap.slid };
+  kept : OnlySlides l.fn.heap l.heap;
 }

@@ -1,8 +1,8 @@
+-- A new record gets a fresh ID, which is known to be free no more.
 use Rattle.std.proofs.Common.{◌∙◌, arith, sym, ap, subst, rules}
 use Rattle.heap_model.specs.Store.{store_of}
 use Rattle.heap_model.specs.Database.{a_record}
-use Rattle.palm_store.specs.declared.entries.infos.NewEntry.{NewEntry}
-use Rattle.palm_store.specs.EntryInfos.{makes_resource, IsMadeOf}
+use Rattle.palm_store.specs.EntryInfos.{NewEntry, makes_resource, IsMadeOf}
 use Rattle.palm_store.proofs.EntriesHere.{count_here, records_here}
 use Rattle.palm_store.proofs.NewEntries.{record_made}
 use Rattle.heap_model.specs.Lists.{times}

@@ -1,6 +1,6 @@
 -- The header spells what it spelled while the chunk is made; where it can't grow, the chunk is
 -- freed again.
-use Rattle.std.proofs.Common.{◌≡◌, ◌≤◌, ◌<◌, ◌≢◌, ◌∙◌, Some, replicate, refl, sym, ap, subst, ℕ, List, length}
+use Rattle.std.proofs.Common.{◌≡◌, ◌≤◌, ◌<◌, ◌≢◌, ◌∙◌, Some, replicate, refl, sym, ap, subst, ℕ, List, length, rules}
 use Rattle.heap_model.specs.Memory.{Memory}
 use Rattle.heap_model.specs.Heap.{directory_of}
 use Rattle.heap_model.specs.Reading.{held}
@@ -82,8 +82,15 @@ sys_free-requires-clause-here c =
     let there = subst (λ (m : Memory). held m.bytes c.in_ok-name.name.0 ≡ Some (record { bytes = replicate c.args.size 0; lock = 0; owner = data_owner })) (sym c.in-Err.ensures.refused) made in
     loose_here c.insert_entry.new.heap c.in_ok-name.name.0 c.sys_find-made.result _ (subst (λ (m : Memory). HeapAccepted m.bytes) (sym c.in-Err.ensures.refused) c.in_ok-name.ensures.made.leaves.frame.accepted) c.sys_find-made.ensures.stands there refl c.sys_find-made.ensures.unlocked
 
-pub returns-in-Err-clause-loan : goal.returns-in-Err-clause-loan
-returns-in-Err-clause-loan c = keeps_then _ _ _ (keeps_then _ _ _ c.sys_new.ensures.loan c.insert_entry.ensures.loan) c.sys_free.ensures.loan
+pub returns-in-Err-clause-kept : goal.returns-in-Err-clause-kept
+returns-in-Err-clause-kept c = record {
+  loan = keeps_then _ _ _ (keeps_then _ _ _ c.sys_new.ensures.loan
+      c.insert_entry.ensures.kept.loan) c.sys_free.ensures.loan;
+  rest = search rules;
+}
 
-pub returns-clause-loan : goal.returns-clause-loan
-returns-clause-loan c = keeps_then _ _ _ c.sys_new.ensures.loan c.insert_entry.ensures.loan
+pub returns-clause-kept : goal.returns-clause-kept
+returns-clause-kept c = record {
+  loan = keeps_then _ _ _ c.sys_new.ensures.loan c.insert_entry.ensures.kept.loan;
+  rest = search rules;
+}

@@ -1,5 +1,5 @@
 -- The header spells the entry first, and then the chunk is given to the database.
-use Rattle.std.proofs.Common.{◌<◌, ◌∙◌, subst, List, length}
+use Rattle.std.proofs.Common.{◌<◌, ◌∙◌, subst, List, length, rules}
 use Rattle.heap_model.specs.Database.{Entry, entry_with}
 use Rattle.db_format.specs.EitherEntry.{entry_of}
 use Rattle.laws_heap.proofs.Results.{on_err}
@@ -46,5 +46,8 @@ returns-clause-none_made c =
     (takes_in c.args.heap.now.bytes c.insert_entry.new.heap.bytes c.sys_set_owner.new.self.bytes c.args.opened.db.0 c.args.at (entry_with (λ none. c.args.name.0) (entry_of c.args.entry)) (entry_of c.with_slot.result) c.args.name.0
     c.with_slot.ensures.is c.in_ok-insert_entry.ensures.inserted c.sys_set_owner.ensures.leaves)
 
-pub returns-clause-loan : goal.returns-clause-loan
-returns-clause-loan c = keeps_then _ _ _ c.insert_entry.ensures.loan c.sys_set_owner.ensures.loan
+pub returns-clause-kept : goal.returns-clause-kept
+returns-clause-kept c = record {
+  loan = keeps_then _ _ _ c.insert_entry.ensures.kept.loan c.sys_set_owner.ensures.loan;
+  rest = search rules;
+}

@@ -1,3 +1,4 @@
+-- Only the attributes of the records change.
 use Rattle.std.proofs.Common.{◌≡◌, false}
 use Rattle.heap_model.specs.Store.{store_of}
 use Rattle.heap_model.specs.EntrySteps.{resources_under}
@@ -37,8 +38,8 @@ returns-clause-none_made g c =
     let opened : IsOpened c.self.inside.heap.bytes c.args.opened = rw c.self.view_is c.requires.opened in
     rw (← c.self.view_is) (respelled_none c.self.inside.heap.bytes c.change_attributes.new.heap.bytes c.args.opened.db.0 _ c.self.invariant.accepted opened.number c.change_attributes.ensures.changed)
 
-pub returns-clause-loan : goal.returns-clause-loan
-returns-clause-loan g c = rw (← c.self.view_is) c.change_attributes.ensures.loan
+pub returns-clause-kept : goal.returns-clause-kept
+returns-clause-kept g c = rw (← c.self.view_is) c.change_attributes.ensures.kept
 
 pub returns-clause-opened : goal.returns-clause-opened
 returns-clause-opened g c =

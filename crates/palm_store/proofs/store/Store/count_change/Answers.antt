@@ -1,3 +1,4 @@
+-- The database counts the call, and nothing else changes.
 use Rattle.palm_store.proofs.EntriesHere.{opened_here}
 use Rattle.palm_store.proofs.EntryChanges.{counting_steps, respelled_none}
 use Rattle.palm_store.specs.Opened.{IsOpened}
@@ -24,5 +25,5 @@ returns-clause-none_made c =
     let opened : IsOpened c.self.inside.heap.bytes c.args.opened = rw c.self.view_is c.requires.opened in
     rw (← c.self.view_is) (respelled_none c.self.inside.heap.bytes c.count_change.new.heap.bytes c.args.opened.db.0 _ c.self.invariant.accepted opened.number c.count_change.ensures.counted)
 
-pub returns-clause-loan : goal.returns-clause-loan
-returns-clause-loan c = rw (← c.self.view_is) c.count_change.ensures.loan
+pub returns-clause-kept : goal.returns-clause-kept
+returns-clause-kept c = rw (← c.self.view_is) c.count_change.ensures.kept

@@ -47,7 +47,7 @@ invariant_of-self c =
     let named : IsDatabaseName c.args.name.now = subst (λ (name : List ℕ). IsDatabaseName name) c.as_slice.ensures.is c.in-Some.ensures.0 in
     let free : IsTaken (store_of image) 0 c.args.name.now → ⊥ = not_taken image _ c.args.name.now 0 _ c.has_other_name.ensures.1 c.if-has_other_name.false c.as_slice-2.ensures.is in
     let few : length (listed image) < most_databases = subst (λ (n : ℕ). n < most_databases) c.count_databases.ensures c.if-count_databases-ge-MOST_DATABASES.false in
-    let does = not_created c.self.inside.heap c.list_new.new.heap c.args.name.now c.args.kind c.args.creator c.args.resources c.args.date c.in_err-slot.field-0.0 c.self.invariant.accepted named few free c.in_err-slot.ensures.no_room c.in_err-slot.ensures.refusal c.in_err-slot.ensures.refused c.list_new.ensures.loan c.list_new.ensures.rest in
+    let does = not_created c.self.inside.heap c.list_new.new.heap c.args.name.now c.args.kind c.args.creator c.args.resources c.args.date c.in_err-slot.field-0.0 c.self.invariant.accepted named few free c.in_err-slot.ensures.no_room c.in_err-slot.ensures.refusal c.in_err-slot.ensures.refused c.list_new.ensures.kept.loan c.list_new.ensures.kept.rest in
     nothing_known _ does.accepted
 
 pub returns-in_err-slot-clause-does : goal.returns-in_err-slot-clause-does
@@ -58,7 +58,7 @@ returns-in_err-slot-clause-does c =
     let few : length (listed image) < most_databases = subst (λ (n : ℕ). n < most_databases) c.count_databases.ensures c.if-count_databases-ge-MOST_DATABASES.false in
     viewed c.self.inside.heap c.args.self.now c.list_new.new.heap _ _ c.self.view_is
     (handed_on (λ db. replies.Database db) (calls.Database (Create c.args.name.now c.args.kind c.args.creator c.args.resources c.args.date)) c.from_residual.result (let e = c.from_residual.ensures in (e.0, e.1))
-    (not_created c.self.inside.heap c.list_new.new.heap c.args.name.now c.args.kind c.args.creator c.args.resources c.args.date c.in_err-slot.field-0.0 c.self.invariant.accepted named few free c.in_err-slot.ensures.no_room c.in_err-slot.ensures.refusal c.in_err-slot.ensures.refused c.list_new.ensures.loan c.list_new.ensures.rest))
+    (not_created c.self.inside.heap c.list_new.new.heap c.args.name.now c.args.kind c.args.creator c.args.resources c.args.date c.in_err-slot.field-0.0 c.self.invariant.accepted named few free c.in_err-slot.ensures.no_room c.in_err-slot.ensures.refusal c.in_err-slot.ensures.refused c.list_new.ensures.kept.loan c.list_new.ensures.kept.rest))
 
 pub sys_find-chunk-requires : goal.sys_find-chunk-requires
 sys_find-chunk-requires c =
@@ -94,8 +94,8 @@ invariant_of-self-2 c =
     header_put image mid c.sys_write.new.self.bytes c.in_ok-slot.slot.0 c.to_bytes.result c.self.invariant.accepted.heap c.in_ok-slot.ensures.lists c.sys_write.ensures.leaves (ap length bytes ∙ length-header_bytes database named) in
     let lists : ListsNew image c.sys_write.new.self.bytes c.in_ok-slot.slot.0 (spelled database) = subst (λ (xs : List ℕ). ListsNew image c.sys_write.new.self.bytes c.in_ok-slot.slot.0 xs) (bytes ∙ sym (header_spells database refl)) written in
     let does = created c.self.inside.heap c.sys_write.new.self (record { 0 = c.in_ok-slot.slot.0 }) c.args.name.now c.args.kind c.args.creator c.args.resources c.args.date c.self.invariant.accepted lists fits few free
-    (keeps_then c.self.inside.heap c.list_new.new.heap c.sys_write.new.self c.list_new.ensures.loan c.sys_write.ensures.loan)
-    (then_written c.self.inside.heap c.list_new.new.heap c.sys_write.new.self c.list_new.ensures.rest c.sys_write.ensures.rest) in
+    (keeps_then c.self.inside.heap c.list_new.new.heap c.sys_write.new.self c.list_new.ensures.kept.loan c.sys_write.ensures.loan)
+    (then_written c.self.inside.heap c.list_new.new.heap c.sys_write.new.self c.list_new.ensures.kept.rest c.sys_write.ensures.rest) in
     nothing_known _ does.accepted
 
 pub returns-clause-does : goal.returns-clause-does
@@ -118,8 +118,8 @@ returns-clause-does c =
     let lists : ListsNew image c.sys_write.new.self.bytes c.in_ok-slot.slot.0 (spelled database) = subst (λ (xs : List ℕ). ListsNew image c.sys_write.new.self.bytes c.in_ok-slot.slot.0 xs) (bytes ∙ sym (header_spells database refl)) written in
     viewed c.self.inside.heap c.args.self.now c.sys_write.new.self _ _ c.self.view_is
     (created c.self.inside.heap c.sys_write.new.self (record { 0 = c.in_ok-slot.slot.0 }) c.args.name.now c.args.kind c.args.creator c.args.resources c.args.date c.self.invariant.accepted lists fits few free
-    (keeps_then c.self.inside.heap c.list_new.new.heap c.sys_write.new.self c.list_new.ensures.loan c.sys_write.ensures.loan)
-    (then_written c.self.inside.heap c.list_new.new.heap c.sys_write.new.self c.list_new.ensures.rest c.sys_write.ensures.rest))
+    (keeps_then c.self.inside.heap c.list_new.new.heap c.sys_write.new.self c.list_new.ensures.kept.loan c.sys_write.ensures.loan)
+    (then_written c.self.inside.heap c.list_new.new.heap c.sys_write.new.self c.list_new.ensures.kept.rest c.sys_write.ensures.rest))
 
 pub sys_write-requires-clause-here : goal.sys_write-requires-clause-here
 sys_write-requires-clause-here c =

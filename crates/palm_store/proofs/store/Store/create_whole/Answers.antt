@@ -18,7 +18,7 @@ use Rattle.palm_store.proofs.NewEntries.{left_as_before}
 use Rattle.palm_store.proofs.WholeChunks.{whole_written}
 use Rattle.palm_store.proofs.WholeSteps.{whole_made, few_listed, size_asked}
 use Rattle.palm_store.proofs.KnownIds.{nothing_known}
-use Rattle.laws_heap.proofs.KeptLoans.{keeps_then}
+use Rattle.database_edits.proofs.Kept.{slides_then, none_slid}
 use Rattle.palm_store.proofs.store.Store.create_whole.Goals as goal
 
 pub returns-then-count_databases-ge-MOST_DATABASES-clause-why : goal.returns-then-count_databases-ge-MOST_DATABASES-clause-why
@@ -83,8 +83,10 @@ returns-clause-could c =
     let few : length (listed image) < most_databases = subst (λ (n : ℕ). n < most_databases) c.count_databases.ensures c.if-count_databases-ge-MOST_DATABASES.false in
     rw (← c.self.view_is) (free, ((λ many. below_most image (few_listed image few) many), (tt, tt)))
 
-pub returns-in_err-slot-clause-loan : goal.returns-in_err-slot-clause-loan
-returns-in_err-slot-clause-loan c = rw (← c.self.view_is) c.list_whole.ensures.loan
+pub returns-in_err-slot-clause-kept : goal.returns-in_err-slot-clause-kept
+returns-in_err-slot-clause-kept c = rw (← c.self.view_is) c.list_whole.ensures.kept
 
-pub returns-clause-loan : goal.returns-clause-loan
-returns-clause-loan c = rw (← c.self.view_is) (keeps_then c.self.inside.heap c.list_whole.new.heap c.write_whole.new.heap c.list_whole.ensures.loan c.write_whole.ensures.loan)
+pub returns-clause-kept : goal.returns-clause-kept
+returns-clause-kept c =
+    rw (← c.self.view_is) (slides_then _ _ _ c.list_whole.ensures.kept
+    (none_slid _ _ c.write_whole.ensures.kept))

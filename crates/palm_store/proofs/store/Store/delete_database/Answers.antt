@@ -28,8 +28,8 @@ invariant_of-self c =
     let freed = all_freed c.self.inside.heap.bytes c.free_data.new.heap.bytes c.sys_free.new.self.bytes c.in_ok-opened.opened.db.0 c.free_data.ensures.leaves c.sys_free.ensures.leaves in
     let does = deleted c.self.inside.heap c.sys_free.new.self c.unlist.new.heap c.in_ok-opened.opened.db c.index_of-index.result c.self.invariant.accepted c.in_ok-opened.ensures.opened.number c.index_of-index.ensures
     (λ locked. both_ways _ c.if-has_locked.false (c.has_locked.ensures.1 locked)) freed c.unlist.ensures.unlists
-    (keeps_then c.self.inside.heap c.sys_free.new.self c.unlist.new.heap (keeps_then c.self.inside.heap c.free_data.new.heap c.sys_free.new.self c.free_data.ensures.loan c.sys_free.ensures.loan) c.unlist.ensures.loan)
-    (then_moved c.self.inside.heap c.sys_free.new.self c.unlist.new.heap (kept_then c.self.inside.heap c.free_data.new.heap c.sys_free.new.self c.free_data.ensures.rest c.sys_free.ensures.rest) c.unlist.ensures.rest) in
+    (keeps_then c.self.inside.heap c.sys_free.new.self c.unlist.new.heap (keeps_then c.self.inside.heap c.free_data.new.heap c.sys_free.new.self c.free_data.ensures.kept.loan c.sys_free.ensures.loan) c.unlist.ensures.kept.loan)
+    (then_moved c.self.inside.heap c.sys_free.new.self c.unlist.new.heap (kept_then c.self.inside.heap c.free_data.new.heap c.sys_free.new.self c.free_data.ensures.kept.rest c.sys_free.ensures.rest) c.unlist.ensures.kept.rest) in
     nothing_known _ does.accepted
 
 pub returns-clause-does : goal.returns-clause-does
@@ -37,8 +37,8 @@ returns-clause-does c =
     let freed = all_freed c.self.inside.heap.bytes c.free_data.new.heap.bytes c.sys_free.new.self.bytes c.in_ok-opened.opened.db.0 c.free_data.ensures.leaves c.sys_free.ensures.leaves in
     let does = deleted c.self.inside.heap c.sys_free.new.self c.unlist.new.heap c.in_ok-opened.opened.db c.index_of-index.result c.self.invariant.accepted c.in_ok-opened.ensures.opened.number c.index_of-index.ensures
     (λ locked. both_ways _ c.if-has_locked.false (c.has_locked.ensures.1 locked)) freed c.unlist.ensures.unlists
-    (keeps_then c.self.inside.heap c.sys_free.new.self c.unlist.new.heap (keeps_then c.self.inside.heap c.free_data.new.heap c.sys_free.new.self c.free_data.ensures.loan c.sys_free.ensures.loan) c.unlist.ensures.loan)
-    (then_moved c.self.inside.heap c.sys_free.new.self c.unlist.new.heap (kept_then c.self.inside.heap c.free_data.new.heap c.sys_free.new.self c.free_data.ensures.rest c.sys_free.ensures.rest) c.unlist.ensures.rest) in
+    (keeps_then c.self.inside.heap c.sys_free.new.self c.unlist.new.heap (keeps_then c.self.inside.heap c.free_data.new.heap c.sys_free.new.self c.free_data.ensures.kept.loan c.sys_free.ensures.loan) c.unlist.ensures.kept.loan)
+    (then_moved c.self.inside.heap c.sys_free.new.self c.unlist.new.heap (kept_then c.self.inside.heap c.free_data.new.heap c.sys_free.new.self c.free_data.ensures.kept.rest c.sys_free.ensures.rest) c.unlist.ensures.kept.rest) in
     rw (← c.in_ok-opened.ensures.db) (viewed c.self.inside.heap c.args.self.now c.unlist.new.heap _ _ c.self.view_is does)
 
 pub free_data-requires-clause-unlocked : goal.free_data-requires-clause-unlocked

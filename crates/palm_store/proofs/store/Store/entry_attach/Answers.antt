@@ -34,11 +34,11 @@ invariant_of-self-2 c =
     let count = opened.count in
     let below = c.if-opened-ge-MOST_ENTRIES.false in
     let few : length (entries_in (store_of image) c.args.opened.db) < most_entries = omega (arith, count, below) in
-    let left = (attach_leaves image c.take_in.new.heap.bytes c.args.opened.db c.args.at c.args.entry (entry_of c.new_entry-made.result.entry) _ c.args.name.0 c.self.invariant.accepted opened.number c.new_entry-made.ensures.is may c.in_ok-take_in.ensures.takes
+    let left = (attach_leaves image c.take_in.new.heap.bytes c.args.opened.db c.args.at c.args.entry (entry_of c.new_entry-made.result.0) _ c.args.name.0 c.self.invariant.accepted opened.number c.new_entry-made.ensures.is may c.in_ok-take_in.ensures.takes
     (c.new_entry-made.ensures.kind ∙ kind) (c.in_ok-take_in.ensures.name_fits c.new_entry-made.ensures.fits) inside few) in
-    let made : Entry ℕ = entry_with (λ none. c.args.name.0) (entry_of c.new_entry-made.result.entry) in
-    let known : KnownIds = c.new_entry-made.result.known in
-    let beside = beside_named (store_of image) (entry_of c.new_entry-made.result.entry) c.args.name.0 known c.new_entry-made.ensures.known in
+    let made : Entry ℕ = entry_with (λ none. c.args.name.0) (entry_of c.new_entry-made.result.0) in
+    let known : KnownIds = c.new_entry-made.result.1 in
+    let beside = beside_named (store_of image) (entry_of c.new_entry-made.result.0) c.args.name.0 known c.new_entry-made.ensures.known in
     record { accepted = left.accepted; free = come_free (store_of image) (store_of c.take_in.new.heap.bytes) c.args.opened.db.0 c.args.at made known left.same.databases beside }
 
 pub returns-clause-attached : goal.returns-clause-attached
@@ -51,11 +51,11 @@ returns-clause-attached c =
     let count = opened.count in
     let below = c.if-opened-ge-MOST_ENTRIES.false in
     let few : length (entries_in (store_of image) c.args.opened.db) < most_entries = omega (arith, count, below) in
-    attach_steps image c.take_in.new.heap.bytes c.args.opened.db c.args.at c.args.entry (entry_of c.new_entry-made.result.entry) _ c.args.name.0 c.self.invariant.accepted opened.number c.new_entry-made.ensures.is may c.in_ok-take_in.ensures.takes
+    attach_steps image c.take_in.new.heap.bytes c.args.opened.db c.args.at c.args.entry (entry_of c.new_entry-made.result.0) _ c.args.name.0 c.self.invariant.accepted opened.number c.new_entry-made.ensures.is may c.in_ok-take_in.ensures.takes
     (c.new_entry-made.ensures.kind ∙ kind) (c.in_ok-take_in.ensures.name_fits c.new_entry-made.ensures.fits) inside few)
 
-pub returns-clause-loan : goal.returns-clause-loan
-returns-clause-loan c = rw (← c.self.view_is) c.take_in.ensures.loan
+pub returns-clause-kept : goal.returns-clause-kept
+returns-clause-kept c = rw (← c.self.view_is) c.take_in.ensures.kept
 
-pub returns-in_err-take_in-clause-loan : goal.returns-in_err-take_in-clause-loan
-returns-in_err-take_in-clause-loan c = rw (← c.self.view_is) c.take_in.ensures.loan
+pub returns-in_err-take_in-clause-kept : goal.returns-in_err-take_in-clause-kept
+returns-in_err-take_in-clause-kept c = rw (← c.self.view_is) c.take_in.ensures.kept

@@ -1,3 +1,4 @@
+-- The entry is dropped, and its data is freed or gets an owner.
 use Rattle.std.proofs.Common.{◌<◌, arith, sym, subst, ℕ, List, Option, length}
 use Rattle.std.specs.Prelude.{IfSome, IfNone}
 use Rattle.heap_model.specs.Maps.{gone}
@@ -11,8 +12,9 @@ use Rattle.palm_store.proofs.EntriesHere.{count_fits, index_below, opened_here}
 use Rattle.palm_store.proofs.EntryChanges.{drop_steps, hand_over_steps, slot_movable, slot_unlocked, slot_no_directory, slot_some}
 use Rattle.palm_store.specs.Opened.{IsOpened}
 use Rattle.palm_store.proofs.KnownIds.{go_free}
-use Rattle.laws_heap.proofs.KeptLoans.{keeps_then}
 use Rattle.palm_store.specs.EntryCalls.{HasLockedData}
+use Rattle.database_edits.proofs.Kept.{slides_then, none_slid}
+use Rattle.database_edits.specs.Kept.{OnlyWrites}
 use Rattle.palm_store.proofs.store.Store.entry_drop.Goals as goal
 
 pub overflow_cast-index : goal.overflow_cast-index
@@ -138,8 +140,15 @@ free_chunk_of-requires-clause-unlocked c =
     slot_unlocked c.self.inside.heap.bytes c.remove_entry.new.heap.bytes c.args.opened.db c.args.index c.slot.result _ _ c.self.invariant.accepted opened.number c.read_entry.ensures.is c.slot.ensures c.remove_entry.ensures.removed
     (subst (λ (owner : Option ℕ). IfNone owner (HasLockedData c.self.inside.heap.bytes c.args.opened.db c.args.index → ⊥)) c.in-None.is unlocked)
 
-pub returns-in-None-clause-loan : goal.returns-in-None-clause-loan
-returns-in-None-clause-loan c = rw (← c.self.view_is) (keeps_then c.self.inside.heap c.remove_entry.new.heap c.free_chunk_of.new.heap c.remove_entry.ensures.loan c.free_chunk_of.ensures.loan)
+pub returns-in-None-clause-kept : goal.returns-in-None-clause-kept
+returns-in-None-clause-kept c =
+    rw (← c.self.view_is) (slides_then _ _ _ c.remove_entry.ensures.kept
+    (none_slid _ _ c.free_chunk_of.ensures.kept))
 
-pub returns-in-Some-clause-loan : goal.returns-in-Some-clause-loan
-returns-in-Some-clause-loan c = rw (← c.self.view_is) (keeps_then c.self.inside.heap c.remove_entry.new.heap c.sys_set_owner.new.self c.remove_entry.ensures.loan c.sys_set_owner.ensures.loan)
+pub returns-in-Some-clause-kept : goal.returns-in-Some-clause-kept
+returns-in-Some-clause-kept c =
+    let owned : OnlyWrites c.remove_entry.new.heap c.sys_set_owner.new.self = record {
+      loan = c.sys_set_owner.ensures.loan;
+      rest = c.sys_set_owner.ensures.rest;
+    } in
+    rw (← c.self.view_is) (slides_then _ _ _ c.remove_entry.ensures.kept (none_slid _ _ owned))

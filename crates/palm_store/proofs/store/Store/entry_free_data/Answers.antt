@@ -1,3 +1,4 @@
+-- The entry names no data, and then its data is freed.
 use Rattle.std.proofs.Common.{arith, refl, sym, None, ◌∙◌, subst, ℕ, List, false, length, ◌≡◌, ◌<◌}
 use Rattle.heap_model.specs.Database.{Entry}
 use Rattle.heap_model.specs.Maps.{gone}
@@ -15,8 +16,8 @@ use Rattle.heap_model.specs.Store.{store_of}
 use Rattle.palm_store.specs.Opened.{IsOpened}
 use Rattle.palm_store.proofs.KnownIds.{change_free, emptied_gets}
 use Rattle.palm_store.proofs.StillOpen.{open_without_data}
-use Rattle.laws_heap.proofs.KeptLoans.{keeps_then}
 use Rattle.palm_store.specs.EntryCalls.{HasLockedData}
+use Rattle.database_edits.proofs.Kept.{writes_then}
 use Rattle.palm_store.proofs.store.Store.entry_free_data.Goals as goal
 
 pub overflow_cast-index : goal.overflow_cast-index
@@ -96,8 +97,10 @@ free_chunk_of-requires-clause-unlocked c =
     let unlocked : HasLockedData c.self.inside.heap.bytes c.args.opened.db c.args.index → ⊥ = rw c.self.view_is c.requires.unlocked in
     slot_unlocked c.self.inside.heap.bytes c.write_entry.new.heap.bytes c.args.opened.db c.args.index c.slot.result _ _ c.self.invariant.accepted opened.number c.read_entry-entry.ensures.is c.slot.ensures c.write_entry.ensures.written unlocked
 
-pub returns-clause-loan : goal.returns-clause-loan
-returns-clause-loan c = rw (← c.self.view_is) (keeps_then c.self.inside.heap c.write_entry.new.heap c.free_chunk_of.new.heap c.write_entry.ensures.loan c.free_chunk_of.ensures.loan)
+pub returns-clause-kept : goal.returns-clause-kept
+returns-clause-kept c =
+    rw (← c.self.view_is) (writes_then _ _ _ c.write_entry.ensures.kept
+    c.free_chunk_of.ensures.kept)
 
 pub returns-clause-opened : goal.returns-clause-opened
 returns-clause-opened c =

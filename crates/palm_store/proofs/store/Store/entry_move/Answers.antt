@@ -1,3 +1,4 @@
+-- The entries are in the new order, and nothing else changes.
 use Rattle.std.proofs.Common.{arith, ◌≤◌, length, ◌<◌}
 use Rattle.palm_store.proofs.EntriesHere.{count_fits, index_below, index_most, opened_here}
 use Rattle.palm_store.proofs.EntryChanges.{move_steps, respelled_none}
@@ -60,5 +61,5 @@ returns-clause-none_made c =
     let opened : IsOpened c.self.inside.heap.bytes c.args.opened = rw c.self.view_is c.requires.opened in
     rw (← c.self.view_is) (respelled_none c.self.inside.heap.bytes c.move_entry.new.heap.bytes c.args.opened.db.0 _ c.self.invariant.accepted opened.number c.move_entry.ensures.moved)
 
-pub returns-clause-loan : goal.returns-clause-loan
-returns-clause-loan c = rw (← c.self.view_is) c.move_entry.ensures.loan
+pub returns-clause-kept : goal.returns-clause-kept
+returns-clause-kept c = rw (← c.self.view_is) c.move_entry.ensures.kept

@@ -1,3 +1,4 @@
+-- The data of the entry is resized, and nothing else changes.
 use Rattle.laws_store.proofs.EditedStores.{resize_steps}
 use Rattle.laws_heap.proofs.Results.{if_err}
 use Rattle.heap_model.specs.Refusals.{FirstBrings}
@@ -39,8 +40,10 @@ returns-in_err-sys_resize-clause-why c =
     rw (← c.self.view_is) (if_err (FirstBrings (checks_of_data_growth c.self.inside.heap c.args.name.0 c.args.size)) c.from_residual.result (e.0, e.1)
     (first_for_callers c.self.inside.heap c.args.name.0 c.args.size c.in_err-sys_resize.field-0.0 (named_owner c.self.inside.heap.bytes c.args.name.0 c.self.invariant.accepted own) c.in_err-sys_resize.ensures.why))
 
-pub returns-clause-loan : goal.returns-clause-loan
-returns-clause-loan c = rw (← c.self.view_is) c.sys_resize.ensures.loan
+pub returns-clause-kept : goal.returns-clause-kept
+returns-clause-kept c =
+    rw (← c.self.view_is) (record { loan = c.sys_resize.ensures.loan; rest = c.sys_resize.ensures.rest })
 
-pub returns-in_err-sys_resize-clause-loan : goal.returns-in_err-sys_resize-clause-loan
-returns-in_err-sys_resize-clause-loan c = rw (← c.self.view_is) c.sys_resize.ensures.loan
+pub returns-in_err-sys_resize-clause-kept : goal.returns-in_err-sys_resize-clause-kept
+returns-in_err-sys_resize-clause-kept c =
+    rw (← c.self.view_is) (record { loan = c.sys_resize.ensures.loan; rest = c.sys_resize.ensures.rest })

@@ -1,3 +1,4 @@
+-- The entry has the given fields and its old data.
 use Rattle.std.proofs.Common.{arith, refl, ◌∙◌, ℕ, List, length, ◌<◌}
 use Rattle.heap_model.specs.Database.{Entry}
 use Rattle.db_format.specs.EitherEntry.{entry_of}
@@ -70,5 +71,5 @@ returns-clause-none_made c =
     let opened : IsOpened c.self.inside.heap.bytes c.args.opened = rw c.self.view_is c.requires.opened in
     rw (← c.self.view_is) (respelled_none c.self.inside.heap.bytes c.write_entry.new.heap.bytes c.args.opened.db.0 _ c.self.invariant.accepted opened.number c.write_entry.ensures.written)
 
-pub returns-clause-loan : goal.returns-clause-loan
-returns-clause-loan c = rw (← c.self.view_is) c.write_entry.ensures.loan
+pub returns-clause-kept : goal.returns-clause-kept
+returns-clause-kept c = rw (← c.self.view_is) c.write_entry.ensures.kept

@@ -12,7 +12,8 @@ use Rattle.palm_store.proofs.EntryChanges.{slot_movable, slot_no_directory, slot
 use Rattle.palm_store.proofs.EntryInfos.{fitting_info, informed_own}
 use Rattle.palm_store.proofs.GivenData.{given, given_kept_then, given_movable, given_no_directory, swap_steps}
 use Rattle.palm_store.proofs.KnownIds.{change_free, named_gets}
-use Rattle.laws_heap.proofs.KeptLoans.{keeps_then}
+use Rattle.database_edits.proofs.Kept.{writes_then}
+use Rattle.database_edits.specs.Kept.{OnlyWrites}
 use Rattle.palm_store.proofs.store.Store.entry_swap.Goals as goal
 
 pub overflow_cast-index : goal.overflow_cast-index
@@ -112,5 +113,15 @@ returns-clause-none_made c =
     (fits_here (entry_with (λ (old : ℕ). c.args.name.0) (with_info c.args.info (entry_of c.read_entry-was.result))) _ _ _ (c.with_slot-entry.ensures.kind ∙ c.entry_with.ensures.kind ∙ c.read_entry-was.ensures.kind) (c.with_slot-entry.ensures.is ∙ ap (entry_with (λ (old : ℕ). c.args.name.0)) c.entry_with.ensures.is) (c.with_slot-entry.ensures.fits c.entry_with.ensures.fits))
     (informed_own c.self.inside.heap.bytes c.args.opened.db c.args.index c.args.info (entry_of c.read_entry-was.result) c.self.invariant.accepted opened.number c.read_entry-was.ensures.is can)).1)
 
-pub returns-clause-loan : goal.returns-clause-loan
-returns-clause-loan c = rw (← c.self.view_is) (keeps_then c.self.inside.heap c.sys_set_owner.new.self c.sys_set_owner-2.new.self (keeps_then c.self.inside.heap c.write_entry.new.heap c.sys_set_owner.new.self c.write_entry.ensures.loan c.sys_set_owner.ensures.loan) c.sys_set_owner-2.ensures.loan)
+pub returns-clause-kept : goal.returns-clause-kept
+returns-clause-kept c =
+    let first : OnlyWrites c.write_entry.new.heap c.sys_set_owner.new.self = record {
+      loan = c.sys_set_owner.ensures.loan;
+      rest = c.sys_set_owner.ensures.rest;
+    } in
+    let second : OnlyWrites c.sys_set_owner.new.self c.sys_set_owner-2.new.self = record {
+      loan = c.sys_set_owner-2.ensures.loan;
+      rest = c.sys_set_owner-2.ensures.rest;
+    } in
+    rw (← c.self.view_is)
+    (writes_then _ _ _ (writes_then _ _ _ c.write_entry.ensures.kept first) second)

@@ -1,3 +1,4 @@
+-- The data has the given bytes, and nothing else changes.
 use Rattle.std.proofs.Common.{length, arith}
 use Rattle.heap_model.specs.Store.{store_of}
 use Rattle.palm_store.specs.Files.{HasDataOf}
@@ -37,5 +38,6 @@ sys_write-requires-clause-here c =
     let d = data_held c.self.inside.heap.bytes c.args.name.0 (length c.args.bytes.now) has in
     loose_here c.self.inside.heap c.args.name.0 c.sys_find-chunk.result d.live c.self.invariant.accepted.heap c.sys_find-chunk.ensures.stands d.there d.loose c.sys_find-chunk.ensures.unlocked
 
-pub returns-clause-loan : goal.returns-clause-loan
-returns-clause-loan c = rw (← c.self.view_is) c.sys_write.ensures.loan
+pub returns-clause-kept : goal.returns-clause-kept
+returns-clause-kept c =
+    rw (← c.self.view_is) (record { loan = c.sys_write.ensures.loan; rest = c.sys_write.ensures.rest })

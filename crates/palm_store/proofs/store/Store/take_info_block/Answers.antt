@@ -1,3 +1,4 @@
+-- The call does the step of the store.
 use Rattle.std.proofs.Common.{inl, rules}
 use Rattle.palm_store.proofs.store.Store.take_info_block.Goals as goal
 
@@ -12,7 +13,7 @@ returns-clause-does c =
       tables = search rules;
       directory = inl left.directory;
       still = left.still;
-      loan = c.take_block.ensures.loan;
+      loan = c.take_block.ensures.kept.loan;
       asks = tt;
-      rest = c.take_block.ensures.rest;
+      rest = c.take_block.ensures.kept.rest;
     })

@@ -1,3 +1,4 @@
+-- The blocks before the index are in their chunks.
 use Rattle.std.proofs.Common.{◌≡◌, ◌+◌, ◌<◌, ℕ, List, Option, Some, None, length, map, get_or, sym, ap, subst, ◌∙◌, arith, rules}
 use Rattle.std.specs.Prelude.{slice_range}
 use Rattle.std.proofs.lemmas.List.{length-map, get_or-map}
@@ -48,7 +49,7 @@ loop-index-preserved c =
           let filled = subst (λ (xs : List ℕ). LeavesStore c.loop-index.store.bytes w.fill_data.new.self.bytes (data_filled (store_of c.loop-index.store.bytes) (get_or c.args.names.now c.loop-index.index (record { 0 = 0 })).0 xs)) w.bytes_of.ensures w.fill_data.ensures.filled in
           let leaves = subst (λ (name : ℕ). LeavesStore c.loop-index.store.bytes w.fill_data.new.self.bytes (data_filled (store_of c.loop-index.store.bytes) name bytes)) (sym (name_at c.args.names.now c.loop-index.index (record { 0 = 0 }) inside)) filled in
           subst (λ (store : Memory). IsFilling c.args.store.now store blocks names (c.loop-index.index + 1)) (sym w.store-is)
-          (one_more c.args.store.now c.loop-index.store w.fill_data.new.self blocks names c.loop-index.index bytes c.requires.once (omega arith) is leaves w.fill_data.ensures.unmoved w.fill_data.ensures.loan w.fill_data.ensures.rest c.loop-index.invariant)
+          (one_more c.args.store.now c.loop-index.store w.fill_data.new.self blocks names c.loop-index.index bytes c.requires.once (omega arith) is leaves w.fill_data.ensures.unmoved w.fill_data.ensures.kept c.loop-index.invariant)
       | in_default w ↦
           let is = block_at c.args.file.now c.args.blocks.now c.loop-index.index None (omega arith) (search rules) in
           subst (λ (store : Memory). IsFilling c.args.store.now store blocks names (c.loop-index.index + 1)) (sym w.store-is)
