@@ -63,7 +63,7 @@ pub chunk_of_class : {image : List ℕ} {class at size : ℕ} → HeapAccepted i
 chunk_of_class {image} {class} {at} {size} h f of_class =
     record {
       begins = begins_there f;
-      of_class = subst (λ n. IsOfClass class n) (sym (free_there image at size h f).size_field) of_class;
+      of_class = rw (← (free_there image at size h f).size_field) at of_class;
       positive = omega arith;
     }
 
@@ -84,4 +84,4 @@ linked_past {before} {word} h lists below leads f some word_is small is =
 
 -- nothing leads to it
 pub linked_nowhere : {image heads : List ℕ} {class before at : ℕ} → HasLists image heads → class < class_count → LeadsTo image heads class before at → IsFreeOf image class at → before ≡ 0 → AreLists (ButAt at) image heads
-linked_nowhere {image} {heads} {class} {at} lists below leads f none = not_listed image heads class at lists below (subst (λ x. Looking image heads class x at) none leads.looking) f.of_class
+linked_nowhere {image} {heads} {class} {at} lists below leads f none = not_listed image heads class at lists below (rw none at leads.looking) f.of_class

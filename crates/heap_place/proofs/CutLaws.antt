@@ -12,7 +12,7 @@ free_header size (free n) e = let same : size ≡ n = cc in ap free (sym same)
 free_header size c e = absurd cc
 
 pub has_free : (image : List ℕ) (at size : ℕ) → HasHeader image at (headers.Free size) → IsFree image at size
-has_free image at size h = subst (λ c. Spelled image at c) (free_header size h.chunk h.header_is) h.spelled
+has_free image at size h = rw (free_header size h.chunk h.header_is) at h.spelled
 
 -- ---- a run is carved
 
@@ -61,8 +61,8 @@ was_cut {old} mid {new} {at} {room} size accepted r least whole within wrote is 
     let area : WroteArea old new at (at + room) = record { mid = new; slot = at; area = all; word = wrote_none new at (at + 4); is_slot = inl refl; there = omega arith; fits = omega arith } in
     let others : List Chunk = free size ∷ gap rest in
     let spelled : SpelledAll new at others (at + total r.run) = (has_free new at size header, gap_spelled old size (at + size) rest (at + total r.run) refl (omega arith) least (omega arith) (second.len) (wrote_wider mid new at (at + 4) at (at + 8) second (omega arith) (omega arith)) wrote) in
-    let replaces = area_replaces old new r.before r.run others r.after at heap.tiles (free_hold_none r.run r.all_free) r.there m.inside (subst (λ n. WroteArea old new at (at + n)) sums area) spelled in
-    let slots = wrote_slots old new r.before r.run r.after at heap.tiles (free_hold_none r.run r.all_free) r.there (subst (λ n. WroteWithin old new at (at + n)) sums all) in
+    let replaces = area_replaces old new r.before r.run others r.after at heap.tiles (free_hold_none r.run r.all_free) r.there m.inside (rw sums at area) spelled in
+    let slots = wrote_slots old new r.before r.run r.after at heap.tiles (free_hold_none r.run r.all_free) r.there (rw sums at all) in
     let new_heap = free_replaced old new r.before r.run others r.after at heap replaces slots r.all_free (gap_free rest) in
     let sizes = replaced_total old new r.before r.run others r.after at replaces in
     let alike = merged-left others r.run r.after (runs-merged others r.run (gap_free rest) r.all_free (omega arith) sizes) in
@@ -72,7 +72,7 @@ was_cut {old} mid {new} {at} {room} size accepted r least whole within wrote is 
       becomes,
       chunks_of-tiled new (r.before ++ (others ++ r.after)) new_heap.tiles,
       λ there out b. keeps_replaced old new r.before r.run others r.after at accepted r.chunks new_heap replaces there
-          (outside_apart old r.before r.run r.after at there heap r.there (subst (λ n. Outside at n there) sums out)) b,
+          (outside_apart old r.before r.run r.after at there heap r.there (rw sums at out)) b,
       replaced_plain old new r.before r.run others r.after at r.chunks new_heap replaces (cut_plain old mid at size rest least (omega arith) (omega arith) (omega arith) is wrote len_mid),
     )
 
@@ -152,7 +152,7 @@ claimed_table {old} {z} {at} count owner {slot} accepted r s h_is z_is =
     let heap = heap_in_parts old (r.before ++ free size ∷ r.after) accepted r.chunks in
     let facts = cut_facts accepted r in
     let e : size ≡ size + 0 = omega arith in
-    table_kept old z r.before (free size ∷ []) r.after at slot heap.tiles tt r.there (subst (λ n. WroteWithin old z at (at + n)) e (claimed_area old at count owner slot facts.0 h_is z_is)) s
+    table_kept old z r.before (free size ∷ []) r.after at slot heap.tiles tt r.there (rw e at (claimed_area old at count owner slot facts.0 h_is z_is)) s
 
 pub claimed_write : {old h z new : List ℕ} {at : ℕ} (count owner : ℕ) {slot : ℕ} → HeapAccepted old → (r : IsFreeChunk old at (need count)) → IsSlot old slot → u32_at old slot ≡ 0
     → h ≡ overwritten old at (live_words count 0 owner (h_offset_to at slot)) → HasHeader h at (headers.Movable count 0 owner slot) → z ≡ overwritten h (at + 8) (replicate count 0) → new ≡ overwritten z slot (u32_bytes (at + 8))
@@ -221,16 +221,16 @@ fixed_claimed {old} {mid} {new} {at} count owner h r some most mid_is header new
     let len : length m.0 ≡ count = m.1.1 in
     let front : at + 8 ≡ at + 8 + 0 = omega arith in
     let b = overwritten_body mid new at 0 m.0 (replicate count 0) _ owner 0 (plain-callers fixed_lock owner some) s (omega arith) (new_is ∙ ap (λ n. overwritten mid n (replicate count 0)) front) in
-    let spelled = subst (λ x. IsLive new at x fixed_lock owner 0) (overwritten_whole m.0 (replicate count 0) (zeros ∙ sym len)) b.0 in
+    let spelled = rw (overwritten_whole m.0 (replicate count 0) (zeros ∙ sym len)) at b.0 in
     let first = wrote_wider old mid at (at + 8) at (at + need count) (wrote_words old mid at count fixed_lock owner 0 inside mid_is) (omega arith) (omega arith) in
-    let both = wrote_then old mid new at (at + need count) first (subst (λ n. WroteWithin mid new at (at + need n)) len b.1) in
+    let both = wrote_then old mid new at (at + need count) first (rw len at b.1) in
     let size : need count + 0 ≡ need count = omega arith in
     let takes : need (length (replicate {A = ℕ} count 0)) ≡ need count = ap need zeros in
     let area = subst (λ n. WroteArea old new at (at + n)) (sym size) record { mid = new; slot = at; area = both; word = wrote_none new at (at + 4); is_slot = inl refl; there = omega arith; fits = omega arith } in
     let replaces = area_replaces old new r.before (free (need count) ∷ []) (fixed (replicate count 0) owner ∷ []) r.after at heap.tiles tt r.there (omega arith) area (spelled, omega arith) in
     let c =
     claimed_fixed old new r.before r.after at (need count) (replicate count 0) owner heap replaces
-    (wrote_slots old new r.before (free (need count) ∷ []) r.after at heap.tiles tt r.there (subst (λ n. WroteWithin old new at (at + n)) (sym size) both)) some most in (
+    (wrote_slots old new r.before (free (need count) ∷ []) r.after at heap.tiles tt r.there (rw (← size) at both)) some most in (
       becomes_heap old new (r.before ++ fixed (replicate count 0) owner ∷ r.after) replaces.head c,
       λ there apart b. keeps_replaced old new r.before (free (need count) ∷ []) (fixed (replicate count 0) owner ∷ []) r.after at h r.chunks c replaces there (other_apart at (need count) there apart) b,
       replaced_plain old new r.before (free (need count) ∷ []) (fixed (replicate count 0) owner ∷ []) r.after at r.chunks c replaces (lives_plain new at (fixed (replicate count 0) owner ∷ []) refl),

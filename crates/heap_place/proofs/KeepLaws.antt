@@ -20,8 +20,8 @@ keeps_tiled {old} {new} {before} {mid} {others} {after} {at} was now r there apa
   | inr rest ↦ elim (AnyPlaced-split (IsFreeAt there) (start + total before) mid after rest) [
     | inl these ↦ absurd (apart (subst (λ n. AnyPlaced (IsFreeAt there) n mid) (sym begins) these))
     | inr back ↦
-        let behind = subst (λ n. AnyPlaced (IsFreeAt there) (n + total mid) after) (sym begins) back in
-        let moved = subst (λ n. AnyPlaced (IsFreeAt there) (start + total before + n) after) (sym sums) back in
+        let behind = rw (← begins) at back in
+        let moved = rw (← sums) at back in
         record {
           begins = is (AnyPlaced-right (IsFreeAt there) start before (others ++ after) (AnyPlaced-right (IsFreeAt there) (start + total before) others after moved));
           first = free_word old new there (at + total mid) after r.back.words behind;
@@ -42,7 +42,7 @@ keeps_tiled {old} {new} {before} {mid} {others} {after} {at} was now r there apa
   found = subst (λ cs. AnyPlaced (IsFreeAt there) (area_start old) cs) was b
 
   is : AnyPlaced (IsFreeAt there) (area_start old) (before ++ (others ++ after)) → BeginsFree new there
-  is a = subst (λ n. AnyPlaced (IsFreeAt there) n (chunks_of new)) (sym (same_start old new r.head)) (subst (λ cs. AnyPlaced (IsFreeAt there) (area_start old) cs) (sym (chunks_of-tiled new (before ++ (others ++ after)) now)) a)
+  is a = rw (← (same_start old new r.head)) at (rw (← (chunks_of-tiled new (before ++ (others ++ after)) now)) at a)
 
 pub keeps_replaced : (old new : List ℕ) (before mid others after : List Chunk) (at : ℕ) → HeapAccepted old → chunks_of old ≡ before ++ (mid ++ after) → IsHeap new (before ++ (others ++ after)) → Replaces old new before mid others after at
     → KeepsFree (NotAmong at mid) old new
@@ -85,7 +85,7 @@ pub free_there : (image : List ℕ) (at size : ℕ) → HeapAccepted image → I
 free_there image at size h f = (chunk_middle h f).spelled.0
 
 pub begins_there : {image : List ℕ} {at size : ℕ} → IsFreeChunk image at size → BeginsFree image at
-begins_there {image} {at} {size} f = subst (λ cs. AnyPlaced (IsFreeAt at) (area_start image) cs) (sym f.chunks) (AnyPlaced-mid (IsFreeAt at) (area_start image) f.before (free size) f.after (sym f.there))
+begins_there {image} {at} {size} f = rw (← f.chunks) at (AnyPlaced-mid (IsFreeAt at) (area_start image) f.before (free size) f.after (sym f.there))
 
 pub linked : {old new : List ℕ} {at size : ℕ} (word : ℕ) → HeapAccepted old → IsFreeChunk old at size → word < 2 ^ 32 → new ≡ overwritten old (at + 4) (u32_bytes word) → Links old new at word
 linked {old} {new} {at} {size} word h f small is =
@@ -120,7 +120,7 @@ pub links_start : {old new : List ℕ} {at word : ℕ} → Links old new at word
 links_start {old} {new} l = frame_start old new l.frame
 
 pub links_begin : {old new : List ℕ} {at word : ℕ} (there : ℕ) → Links old new at word → BeginsFree new there → BeginsFree old there
-links_begin {old} {new} there l b = subst (λ cs. AnyPlaced (IsFreeAt there) (area_start old) cs) l.chunks (subst (λ n. AnyPlaced (IsFreeAt there) n (chunks_of new)) (links_start l) b)
+links_begin {old} {new} there l b = rw l.chunks at (rw (links_start l) at b)
 
 pub links_plain : (old new : List ℕ) (at word : ℕ) → Links old new at word → WritesPlain old new
 links_plain old new at word l there b = let was = links_begin there l b in inr (was, l.firsts there was)
@@ -138,6 +138,6 @@ was_pushed {new} heads {at} {size} {class} h f below of_class small is head =
       class = class;
       below = below;
       links = l;
-      free = record { begins = begins_there now; of_class = subst (λ n. IsOfClass class n) (sym spelled.size_field) of_class; positive = omega arith };
+      free = record { begins = begins_there now; of_class = rw (← spelled.size_field) at of_class; positive = omega arith };
       is_head = head;
     }

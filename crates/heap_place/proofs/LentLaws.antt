@@ -9,7 +9,7 @@ pub one_within : (m : Memory) (found : Found) → HeapAccepted m.bytes → Lends
 one_within m found h l f = found_within m _ f.live f.chunk _ h l f.finds
 
 other_at : (m : Memory) {found : Found} → IsOne m.bytes found → LendsOther m found.place.0 → LendsOther m (found.place.0 - 8 + 8)
-other_at m {found} f other = let e : found.place.0 ≡ found.place.0 - 8 + 8 = omega arith in subst (λ n. LendsOther m n) e other
+other_at m {found} f other = let e : found.place.0 ≡ found.place.0 - 8 + 8 = omega arith in rw e at other
 
 -- and a part of its body
 pub one_body_within : (m : Memory) (found : Found) (k n : ℕ) → HeapAccepted m.bytes → LendsBodies m → (f : IsOne m.bytes found) → LendsOther m found.place.0 → k + n ≤ found.length → IsWithin m (found.place.0 + k) n
@@ -145,7 +145,7 @@ pub placed_lends : (old new : Memory) → LendsBodies old → new.lents ≡ old.
 placed_lends old new l same e s =
     subst (λ x. EachLent (IsLentBody new.bytes) x) (sym same)
     (each_to (IsLentBody old.bytes) (IsLentBody new.bytes) old.lents l (λ lent is x.
-    subst (λ n. AnyPlaced (LentHere lent) n (chunks_of new.bytes)) (sym s) (subst (λ cs. AnyPlaced (LentHere lent) (area_start old.bytes) cs) (sym e) x)))
+    subst (λ n. AnyPlaced (LentHere lent) n (chunks_of new.bytes)) (sym s) (rw (← e) at x)))
 
 -- a body is lent
 lent_there : (at : ℕ) (lent : Lent) (name : ℕ) (live : LiveChunk) (c : Chunk) → NamedHere name live at c → 0 < live.lock → lent.at ≡ at + 8 → lent.count ≡ length live.bytes → LentHere lent at c
@@ -171,7 +171,7 @@ pub others_lend : (old : Memory) {new : List ℕ} {found : Found} (part : List �
 others_lend old {new} {found} part h l f x many other =
     let size = bytes_size found.name.0 (found.place.0 - 8) 0 f.live f.chunk part f.finds.named (omega arith) in
     let there : found.place.0 ≡ found.place.0 - 8 + 8 = omega arith in
-    other_lends old (record old { bytes = new }) _ f.live f.chunk _ (λ c. with_bytes 0 part c ∷ []) h l refl f.finds x (omega arith) (subst (λ k. LendsOther old k) there other)
+    other_lends old (record old { bytes = new }) _ f.live f.chunk _ (λ c. with_bytes 0 part c ∷ []) h l refl f.finds x (omega arith) (rw there at other)
 
 pub lending_lends : (old new : Memory) (found : Found) (lent : Lent) (part : List ℕ) → HeapAccepted old.bytes → LendsBodies old → LendsOther old found.place.0 → new.lents ≡ lent ∷ old.lents → (f : IsOne old.bytes found) → 0 < found.lock → Alters old.bytes new.bytes (found.place.0 - 8) (with_bytes 0 part) → length part ≡ found.length → lent.at ≡ found.place.0 → lent.count ≡ found.length → LendsBodies new
 lending_lends old new found lent part h l other is f some x many there count =

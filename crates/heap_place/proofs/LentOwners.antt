@@ -57,7 +57,7 @@ freed_none_lent old new owner {found} h l none same f other x = λ b c a e own.
 
       still : (lent : Lent) → lent.at ≢ found.place.0 → AnyPlaced (LentAside owner lent) start (chunks_of old.bytes) → AnyPlaced (LentAside owner lent) (area_start new.bytes) (chunks_of new.bytes)
       still lent o y =
-          let parts = subst (λ cs. AnyPlaced (LentAside owner lent) (area_start old.bytes) cs) f.finds.chunks y in
+          let parts = rw f.finds.chunks at y in
           let replaced =
           any_replaced (LentAside owner lent) start f.finds.before (f.chunk ∷ []) (freed f.chunk ∷ []) f.finds.after refl
           (λ (z : AnyPlaced (LentAside owner lent) (area_start old.bytes + total f.finds.before) (f.chunk ∷ [])). elim z [

@@ -29,7 +29,7 @@ one_length image class (suc n) (suc m) at a b = ap (λ k. suc k) (one_length ima
 pub chain_apart : (image : List ℕ) (class n m at here : ℕ) → Chain image class n at → Chain image class m here → n < m → OnChain (ButAt here) image n at
 chain_apart image class zero m at here a b less = tt
 chain_apart image class (suc n) m at here a b less = (
-  λ same. let e = one_length image class (suc n) m here (subst (λ x. Chain image class (suc n) x) same a) b in omega arith,
+  λ same. let e = one_length image class (suc n) m here (rw same at a) b in omega arith,
   chain_apart image class n m (second_of image at) here a.1 b (omega arith),
 )
 
@@ -43,19 +43,19 @@ weaker P Q image class zero at each c on = tt
 weaker P Q image class (suc n) at each c on = (each at c.0 on.0, weaker P Q image class n (second_of image at) each c.1 on.1)
 
 pub free_kept : {old new : List ℕ} {class at : ℕ} → IsFreeOf old class at → KeepsOne old new at → IsFreeOf new class at
-free_kept {class} f k = record { begins = k.begins; of_class = subst (λ word. IsOfClass class (size_field word)) (sym k.first) f.of_class; positive = f.positive }
+free_kept {class} f k = record { begins = k.begins; of_class = rw (← k.first) at f.of_class; positive = f.positive }
 
 pub chain_kept : (P : ℕ → Type 0) {old new : List ℕ} (class n at : ℕ) → KeepsFree P old new → Chain old class n at → OnChain P old n at → Chain new class n at
 chain_kept P class zero at keeps c on = c
 chain_kept P {old} {new} class (suc n) at keeps c on =
     let k = keeps at on.0 c.0.begins in
-    (free_kept c.0 k, subst (λ x. Chain new class n x) (sym k.second) (chain_kept P class n (second_of old at) keeps c.1 on.1))
+    (free_kept c.0 k, rw (← k.second) at (chain_kept P class n (second_of old at) keeps c.1 on.1))
 
 pub each_kept : (P : ℕ → Type 0) (old new : List ℕ) (class n at : ℕ) → KeepsFree P old new → Chain old class n at → OnChain P old n at → OnChain P new n at
 each_kept P old new class zero at keeps c on = tt
 each_kept P old new class (suc n) at keeps c on =
     let k = keeps at on.0 c.0.begins in
-    (on.0, subst (λ x. OnChain P new n x) (sym k.second) (each_kept P old new class n (second_of old at) keeps c.1 on.1))
+    (on.0, rw (← k.second) at (each_kept P old new class n (second_of old at) keeps c.1 on.1))
 
 -- ---- lists
 
@@ -107,14 +107,14 @@ one_and_others P image heads class count here others = record {
 -- and with another head
 changed_list : (P : ℕ → Type 0) (image heads : List ℕ) (class to : ℕ) → length heads ≡ class_count → class < class_count → IsList P image class to → ((k : ℕ) → k < class_count → k ≢ class → IsList P image k (slice_index heads k)) → AreLists P image (set heads class to)
 changed_list P image heads class to count below here others =
-    one_and_others P image (set heads class to) class (length-set heads class to ∙ count) (subst (λ x. IsList P image class x) (sym (get_or-set_same heads class to 0 (omega arith))) here)
-    (λ k low apart. subst (λ x. IsList P image k x) (sym (get_or-set_other heads class k to 0 apart)) (others k low apart))
+    one_and_others P image (set heads class to) class (length-set heads class to ∙ count) (rw (← (get_or-set_same heads class to 0 (omega arith))) at here)
+    (λ k low apart. rw (← (get_or-set_other heads class k to 0 apart)) at (others k low apart))
 
 -- without its head a list is one of the others
 pub popped : {image heads : List ℕ} (class : ℕ) {at : ℕ} → HasLists image heads → class < class_count → at ≡ slice_index heads class → 0 < at → AreLists (ButAt at) image (set heads class (second_of image at))
 popped {image} {heads} class {at} a below is some = changed_list (ButAt at) image heads class (second_of image at) a.count below rest other where
   head : IsHead image heads class at
-  head = subst (λ x. IsHead image heads class x) (sym is) (head_free class a below (subst (λ x. 0 < x) is some))
+  head = rw (← is) at (head_free class a below (rw is at some))
 
   rest : IsList (ButAt at) image class (second_of image at)
   rest = record { count = head.count; chain = head.rest; each = chain_apart image class head.count (suc head.count) (second_of image at) at head.rest (head.free, head.rest) (omega arith) }
@@ -126,7 +126,7 @@ popped {image} {heads} class {at} a below is some = changed_list (ButAt at) imag
         count = l.count;
         chain = l.chain;
         each = chain_each (ButAt at) image k l.count (slice_index heads k)
-            (λ x f e. one_class f.of_class (subst (λ y. IsOfClass class (size_field (u32_at image y))) (sym e) head.free.of_class) apart) l.chain;
+            (λ x f e. one_class f.of_class (rw (← e) at head.free.of_class) apart) l.chain;
       }
 
 -- a free chunk that is in none of the lists in front of one
@@ -135,7 +135,7 @@ pushed P {image} {heads} {class} {at} a below free holds next = changed_list P i
   longer : IsList P image class at
   longer =
       let l = a.lists class below in
-      record { count = suc l.count; chain = (free, subst (λ x. Chain image class l.count x) (sym next) l.chain); each = (holds, subst (λ x. OnChain P image l.count x) (sym next) l.each) }
+      record { count = suc l.count; chain = (free, rw (← next) at l.chain); each = (holds, rw (← next) at l.each) }
 
 -- so after the push
 pub push_lists : (P Q : ℕ → Type 0) {old new heads after : List ℕ} {at : ℕ} → AreLists P old heads → ((x : ℕ) → BeginsFree old x → P x → Q x × (x ≢ at)) → Q at → Pushes old new heads after at → AreLists Q new after

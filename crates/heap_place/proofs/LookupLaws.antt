@@ -42,8 +42,8 @@ Decides-fixed_by : (at owner : ℕ) (name : Name) → Decides (fixed_test at nam
 Decides-fixed_by at owner name = Decides-and _ _ (Decides-eqb (at + 8) name.0) (Decides-ltb 0 owner)
 
 fixed_named : (at : ℕ) (name : Name) {header : Header} (c : Chunk) {found : Found} → header ≡ header_of c → found_if_fixed header (placed (at + 8)) name ≡ Some found → FixedAs at name c found
-fixed_named at name (free size) {found} e f = let g = subst (λ h. found_if_fixed h (placed (at + 8)) name ≡ Some found) e f in absurd cc
-fixed_named at name (movable bytes lock owner slot) {found} e f = let g = subst (λ h. found_if_fixed h (placed (at + 8)) name ≡ Some found) e f in absurd cc
+fixed_named at name (free size) {found} e f = let g = rw e at f in absurd cc
+fixed_named at name (movable bytes lock owner slot) {found} e f = let g = rw e at f in absurd cc
 fixed_named at name (fixed bytes owner) {found} e f = elim (true_or_false (fixed_test at name owner)) [
   | inl is ↦
       let both = (Decides-fixed_by at owner name).0 is in
@@ -91,7 +91,7 @@ not_fixed at name (fixed bytes owner) f = λ some same. let there = sym (cond-tr
 pub fixed_passed : {image : List ℕ} {at : ℕ} (name : Name) {header : Header} → Passed image (NoneFixedAs image name.0) at → HasHeader image at header → found_if_fixed header (placed (at + 8)) name ≡ None → Passed image (NoneFixedAs image name.0) (at + size_by header)
 fixed_passed {image} {at} name {header} p has f = passed_more image (NoneFixedAs image name.0) (NoneFixedAs image name.0) at header p has
     (EveryPlaced-push (NotFixedAs name.0) (area_start image) p.front has.chunk at (passed_at image (NoneFixedAs image name.0) at p) p.holds
-    (not_fixed at name has.chunk (subst (λ h. found_if_fixed h (placed (at + 8)) name ≡ None) has.header_is f)))
+    (not_fixed at name has.chunk (rw has.header_is at f)))
 
 -- one that doesn't begin at an offset is passed
 pub begins_passed : {image : List ℕ} {at : ℕ} (there : ℕ) {header : Header} → Passed image (NoneBeginsAt image there) at → HasHeader image at header → at ≢ there → Passed image (NoneBeginsAt image there) (at + size_by header)
@@ -109,14 +109,14 @@ held_slot {image} {name} {place} h holds = in_slot image name place h holds.is_s
 pub none_begins_holds : {image : List ℕ} (place : ℕ) → HeapAccepted image → NoneBeginsAt image (place - 8) (chunks_of image) → NoSlotHolds image place
 none_begins_holds {image} place h none = λ name holds.
     let i = held_slot h holds in
-    none_at (place - 8) (area_start image) i.finds.before (movable i.live.bytes i.live.lock i.live.owner i.named) i.finds.after (subst (λ cs. EveryPlaced (λ k d. k ≢ place - 8) (area_start image) cs) i.finds.chunks none) (sym i.finds.there)
+    none_at (place - 8) (area_start image) i.finds.before (movable i.live.bytes i.live.lock i.live.owner i.named) i.finds.after (rw i.finds.chunks at none) (sym i.finds.there)
 
 -- ---- the chunk of a name that stands for one and isn't in a slot
 
 movable_holds : {image : List ℕ} {name : ℕ} {live : LiveChunk} {bytes : List ℕ} {lock owner slot at : ℕ} → HeapAccepted image → HoldsNothing image name → Finds image name live (movable bytes lock owner slot) at → ⊥
 movable_holds {image} {name} {bytes} {lock} {owner} {slot} {at} h nothing f =
     let body : BodyHere name (at + 8) (area_start image + total f.before) (movable bytes lock owner slot) = (f.named.0, omega arith) in
-    let here = subst (λ cs. AnyPlaced (BodyHere name (at + 8)) (area_start image) cs) (sym f.chunks) (AnyPlaced-mid (BodyHere name (at + 8)) (area_start image) f.before (movable bytes lock owner slot) f.after body) in
+    let here = rw (← f.chunks) at (AnyPlaced-mid (BodyHere name (at + 8)) (area_start image) f.before (movable bytes lock owner slot) f.after body) in
     let tied = ((read_heap image h).tied name (at + 8) (omega arith)).1 here in
     let empty = nothing tied.0 in
     absurd (omega arith)
@@ -128,7 +128,7 @@ fixed_chunk {image} {name} {live} (fixed bytes owner) {at} h nothing f =
     let is = fixed_name_is at bytes owner f.named in
     let place = fixed_place at in
     let there : at ≡ name - 8 = omega arith in
-    record { live = live; bytes = bytes; owner = owner; finds = subst (λ n. Finds image name live (fixed bytes owner) n) there f; behind_header = omega arith }
+    record { live = live; bytes = bytes; owner = owner; finds = rw there at f; behind_header = omega arith }
 
 pub is_fixed : {image : List ℕ} (name : ℕ) (x : Option LiveChunk) → HeapAccepted image → held image name ≡ x → IsSome x → HoldsNothing image name → IsFixed image name
 is_fixed name None h e some nothing = absurd cc
@@ -263,7 +263,7 @@ elsewhere_holds_none {image} place h read is not_held name holds =
 
 -- it holds this place
 pub slot_one : {image : List ℕ} (place : Place) {found : Found} {header : Header} → HeapAccepted image → ReadsHeader image (place.0 - 8) header → found_if_movable header place ≡ Some found → HoldsPlace image found.name.0 place.0 → IsOne image found
-slot_one {image} place {found} h read is holds = subst (λ x. MatchOption x ⊥ (IsFound image found.name.0)) is (slot_found place h read holds)
+slot_one {image} place {found} h read is holds = rw is at (slot_found place h read holds)
 
 pub movable_place : (header : Header) (place : Place) {found : Found} → found_if_movable header place ≡ Some found → found.place.0 ≡ place.0
 movable_place (headers.Free size) place e = absurd cc
@@ -275,12 +275,12 @@ pub nothing_at : {image : List ℕ} (place : ℕ) → HeapAccepted image → NoS
 nothing_at {image} place h slots none_fixed name at = none (held image name) refl where
   at_place : (live : LiveChunk) (c : Chunk) (there : ℕ) → Finds image name live c there → there + 8 ≡ place → ⊥
   at_place live (free size) there f e = f.named
-  at_place live (movable bytes lock owner slot) there f e = slots name (subst (λ p. HoldsPlace image name p) e (own_holds h f))
+  at_place live (movable bytes lock owner slot) there f e = slots name (rw e at (own_holds h f))
   at_place live (fixed bytes owner) there f e =
       let here : EveryPlaced (NotFixedAs place) (area_start image + total f.before) (fixed bytes owner ∷ f.after) =
-      (EveryPlaced-split (NotFixedAs place) (area_start image) f.before (fixed bytes owner ∷ f.after) (subst (λ cs. EveryPlaced (NotFixedAs place) (area_start image) cs) f.chunks none_fixed)).1 in
-      let named = subst (λ n. NamedHere n live there (fixed bytes owner)) (sym (fixed_name_is there bytes owner f.named) ∙ fixed_place there ∙ e) f.named in
-      fixed_not (area_start image + total f.before) bytes owner (subst (λ n. NamedHere place live n (fixed bytes owner)) f.there named) here.0
+      (EveryPlaced-split (NotFixedAs place) (area_start image) f.before (fixed bytes owner ∷ f.after) (rw f.chunks at none_fixed)).1 in
+      let named = rw (sym (fixed_name_is there bytes owner f.named) ∙ fixed_place there ∙ e) at f.named in
+      fixed_not (area_start image + total f.before) bytes owner (rw f.there at named) here.0
 
   none : (x : Option LiveChunk) → held image name ≡ x → ⊥
   none None e = let f = sym at ∙ unplaced image name e in absurd cc

@@ -54,18 +54,18 @@ table_written {old} {h} {z} {at} accepted chained r h_is header z_is =
 
 alike_keeps : {old new : List ℕ} {cs ds : List Chunk} → Tiles old cs → Tiles new ds → area_start new ≡ area_start old → SpellsAlike old new (area_start old) cs ds → KeepsFree Any old new
 alike_keeps {old} {new} {cs} {ds} t u start s there any b =
-    let found = subst (λ xs. AnyPlaced (IsFreeAt there) (area_start old) xs) (chunks_of-tiled old cs t) b in
+    let found = rw (chunks_of-tiled old cs t) at b in
     record {
-      begins = subst (λ n. AnyPlaced (IsFreeAt there) n (chunks_of new)) (sym start) (subst (λ xs. AnyPlaced (IsFreeAt there) (area_start old) xs) (sym (chunks_of-tiled new ds u)) (any_alike (IsFreeAt there) (free_tells there) (area_start old) cs ds s.alike found));
+      begins = rw (← start) at (rw (← (chunks_of-tiled new ds u)) at (any_alike (IsFreeAt there) (free_tells there) (area_start old) cs ds s.alike found));
       first = free_word old new there (area_start old) cs s.words found;
       second = s.seconds there found;
     }
 
 alike_plain : {old new : List ℕ} {cs ds : List Chunk} → Tiles old cs → Tiles new ds → area_start new ≡ area_start old → SpellsAlike old new (area_start old) cs ds → WritesPlain old new
 alike_plain {old} {new} {cs} {ds} t u start s there b =
-    let found = subst (λ xs. AnyPlaced (IsFreeAt there) (area_start old) xs) (chunks_of-tiled new ds u) (subst (λ n. AnyPlaced (IsFreeAt there) n (chunks_of new)) start b) in
+    let found = rw (chunks_of-tiled new ds u) at (rw start at b) in
     let was = any_alike (IsFreeAt there) (free_tells there) (area_start old) ds cs (alike_back cs ds s.alike) found in
-    inr (subst (λ xs. AnyPlaced (IsFreeAt there) (area_start old) xs) (sym (chunks_of-tiled old cs t)) was, free_word old new there (area_start old) cs s.words was)
+    inr (rw (← (chunks_of-tiled old cs t)) at was, free_word old new there (area_start old) cs s.words was)
 
 -- ---- together
 

@@ -37,14 +37,14 @@ other_test true chunk s = absurd cc
 other_test false chunk s = refl
 
 pub owned_named : (at owner : ℕ) {header : Header} (c : Chunk) {found : Found} → header ≡ header_of c → FindsOwned header at owner found → OwnedAs at owner c found
-owned_named at owner (free size) {found} e f = let g = subst (λ h. owned_by h (placed (at + 8)) owner ≡ Some found) e f in absurd cc
+owned_named at owner (free size) {found} e f = let g = rw e at f in absurd cc
 owned_named at owner (movable bytes lock own slot) {found} e f =
-    let t = own_test own owner (record { name = record { 0 = slot }; place = placed (at + 8); length = length bytes; lock = lock; owner = owner }) found (subst (λ h. owned_by h (placed (at + 8)) owner ≡ Some found) e f) in
+    let t = own_test own owner (record { name = record { 0 = slot }; place = placed (at + 8); length = length bytes; lock = lock; owner = owner }) found (rw e at f) in
     subst (λ x. OwnedAs at owner (movable bytes lock own slot) x) t.1
     record { live = record { bytes = bytes; lock = lock; owner = own }; named = λ some. (refl, refl); is_live = tt; place = refl; count = refl; lock_is = refl; owner_is = sym t.0; own = refl; is = eq-eqb own owner t.0 }
 owned_named at owner (fixed bytes own) {found} e f =
-    let t = own_test own owner (record { name = record { 0 = at + 8 }; place = placed (at + 8); length = length bytes; lock = fixed_lock; owner = owner }) found (subst (λ h. owned_by h (placed (at + 8)) owner ≡ Some found) e f) in
-    let named = λ (some : 0 < owner). fixed_has_name at bytes own (subst (λ n. 0 < n) (sym t.0) some) in
+    let t = own_test own owner (record { name = record { 0 = at + 8 }; place = placed (at + 8); length = length bytes; lock = fixed_lock; owner = owner }) found (rw e at f) in
+    let named = λ (some : 0 < owner). fixed_has_name at bytes own (rw (← t.0) at some) in
     subst (λ x. OwnedAs at owner (fixed bytes own) x) t.1
     record { live = fixed_live bytes own; named = named; is_live = tt; place = refl; count = refl; lock_is = refl; owner_is = sym t.0; own = refl; is = eq-eqb own owner t.0 }
 
@@ -90,12 +90,12 @@ lent_pushed m {at} owner {header} p has other = passed_more m.bytes (NoneLentAmo
 -- another owner's chunk is passed
 pub lent_not_owned : (m : Memory) {at : ℕ} (owner : ℕ) {header : Header} → Passed m.bytes (NoneLentAmong m owner) at → HasHeader m.bytes at header → owned_by header (placed (at + 8)) owner ≡ None → Passed m.bytes (NoneLentAmong m owner) (at + size_by header)
 lent_not_owned m {at} owner p has e = lent_pushed m owner p has (λ own.
-    let isnt = not_owned_named at owner has.chunk (subst (λ h. owned_by h (placed (at + 8)) owner ≡ None) has.header_is e) in
+    let isnt = not_owned_named at owner has.chunk (rw has.header_is at e) in
     absurd (let bad = sym own ∙ isnt in cc))
 
 -- and one that isn't lent
 pub lent_elsewhere : (m : Memory) {at : ℕ} (owner : ℕ) {header : Header} (found : Found) → Passed m.bytes (NoneLentAmong m owner) at → HasHeader m.bytes at header → found.place.0 ≡ at + 8 → LendsOther m found.place.0 → Passed m.bytes (NoneLentAmong m owner) (at + size_by header)
-lent_elsewhere m owner found p has place other = lent_pushed m owner p has (λ own. subst (λ n. LendsOther m n) place other)
+lent_elsewhere m owner found p has place other = lent_pushed m owner p has (λ own. rw place at other)
 
 pub owned_place : {image : List ℕ} {at : ℕ} (owner : ℕ) {header : Header} {found : Found} → HasHeader image at header → FindsOwned header at owner found → (found.place.0 ≡ at + 8) × (found.owner ≡ owner)
 owned_place {at} owner has is = let o = owned_named at owner has.chunk has.header_is is in (o.place, o.own)
@@ -108,12 +108,12 @@ pub begins_other : (m : Memory) (place : ℕ) → (BeginsAt place m.lents → �
 begins_other m place none = no_begin place m.lents none
 
 none_by : (m : Memory) (owner start : ℕ) (before : List Chunk) (c : Chunk) (after : List Chunk) → EveryPlaced (λ k d. IsTrue (is_owned_by owner d) → LendsOther m (k + 8)) start (before ++ c ∷ after) → IsTrue (is_owned_by owner c) → LendsOther m (start + total before + 8)
-none_by m owner start [] c after e own = subst (λ n. LendsOther m n) (let z : start + 8 ≡ start + total [] + 8 = omega arith in z) (e.0 own)
-none_by m owner start (b ∷ bs) c after e own = subst (λ n. LendsOther m n) (let z : start + size_of b + total bs + 8 ≡ start + total (b ∷ bs) + 8 = omega arith in z) (none_by m owner (start + size_of b) bs c after e.1 own)
+none_by m owner start [] c after e own = rw (let z : start + 8 ≡ start + total [] + 8 = omega arith in z) at (e.0 own)
+none_by m owner start (b ∷ bs) c after e own = rw (let z : start + size_of b + total bs + 8 ≡ start + total (b ∷ bs) + 8 = omega arith in z) at (none_by m owner (start + size_of b) bs c after e.1 own)
 
 pub none_of_owner : (m : Memory) (owner : ℕ) {at : ℕ} → HeapAccepted m.bytes → Passed m.bytes (NoneLentAmong m owner) at → length m.bytes ≤ at → LendsNoneOf m owner
 none_of_owner m owner {at} h p beyond = λ before chunk after e own.
-    none_by m owner (area_start m.bytes) before chunk after (subst (λ cs. EveryPlaced (λ k d. IsTrue (is_owned_by owner d) → LendsOther m (k + 8)) (area_start m.bytes) cs) e (passed_all m.bytes (NoneLentAmong m owner) at h p beyond)) own
+    none_by m owner (area_start m.bytes) before chunk after (rw e at (passed_all m.bytes (NoneLentAmong m owner) at h p beyond)) own
 
 -- ---- how many there are
 
@@ -138,7 +138,7 @@ freeing_there f inside = passed_chunk f.frame.accepted f.passed inside
 
 pub freeing_kept : {old now : List ℕ} {owner at count : ℕ} {header : Header} {size : ℕ} → Freeing old now owner at count → HasHeader now at header → owned_by header (placed (at + 8)) owner ≡ None → size ≡ size_by header → Freeing old now owner (at + size) count
 freeing_kept {old} {now} {owner} {at} {count} {header} f has not_own is =
-    let other = not_owned_named at owner has.chunk (subst (λ h. owned_by h (placed (at + 8)) owner ≡ None) has.header_is not_own) in
+    let other = not_owned_named at owner has.chunk (rw has.header_is at not_own) in
     subst (λ n. Freeing old now owner (at + n) count) (sym is) record {
       frame = f.frame;
       same = f.same;
@@ -160,13 +160,13 @@ freeing_more {old} {now} {new} {owner} {at} size {found} f has is x exact p =
     let after : List Chunk = parts.0 in
     let c : Chunk = has.chunk in
     let passed : List Chunk = front ++ free size ∷ [] in
-    let b = (exchanges_parts now new at (λ chunk. freed chunk ∷ []) front c after f.frame.accepted o.is_live parts.1 there).0 (subst (λ n. Alters now new n freed) back x) in
+    let b = (exchanges_parts now new at (λ chunk. freed chunk ∷ []) front c after f.frame.accepted o.is_live parts.1 there).0 (rw back at x) in
     let one : cond {A = ℕ} (is_owned_by owner c) 1 0 ≡ 1 = cond-true (is_owned_by owner c) 1 0 o.is in
     let before_is : owned owner (chunks_of now) ≡ owned owner front + (cond {A = ℕ} (is_owned_by owner c) 1 0 + owned owner after) = ap (owned owner) parts.1 ∙ counted_one owner front c after in
     let now_is : owned owner (chunks_of new) ≡ owned owner front + (0 + owned owner after) = ap (owned owner) exact ∙ counted_one owner front (free size) after in
     let start = becomes_start now new (front ++ freed c ∷ after) b in
     let sizes = total-append front (free size ∷ []) in
-    let area = subst (λ cs. SpelledAll new (area_start new) cs (length new)) (exact ∙ sym (append_assoc front (free size ∷ []) after)) (read_heap new b.frame.accepted).tiles.area in
+    let area = rw (exact ∙ sym (append_assoc front (free size ∷ []) after)) at (read_heap new b.frame.accepted).tiles.area in
     let s = SpelledAll-split new (area_start new) passed after (length new) area in
     let end = SpelledAll-end new (area_start new + total passed) after (length new) s.1 in
     let least = (SpelledAll-split new (area_start new) front (free size ∷ []) (area_start new + total passed) s.0).1.0.header_fits in
@@ -178,7 +178,7 @@ freeing_more {old} {now} {new} {owner} {at} size {found} f has is x exact p =
         same = owned_freed-layout owner (chunks_of new) (front ++ freed c ∷ after) b.layout ∙ ap merged lists ∙ sym (ap (λ cs. merged (owned_freed owner cs)) parts.1) ∙ f.same;
         passed = record {
           front = passed;
-          spelled = subst (λ n. SpelledAll new (area_start new) passed n) (let e : area_start new + total passed ≡ at + size = omega arith in e) s.0;
+          spelled = rw (let e : area_start new + total passed ≡ at + size = omega arith in e) at s.0;
           inside = omega arith;
           holds = none_more owner front (free size) f.passed.holds refl;
         };

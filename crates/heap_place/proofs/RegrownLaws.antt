@@ -63,7 +63,7 @@ run_outside {image} {found} there e h r b out = elim (AnyPlaced-split (IsFreeAt 
 
 -- every free chunk lies outside of no bytes where a chunk begins
 pub none_outside : {image : List ℕ} {at size : ℕ} (there : ℕ) → size ≡ 0 → HeapAccepted image → IsSpot image at size → BeginsFree image there → Outside at size there
-none_outside {image} there none h r b = elim (AnyPlaced-split (IsFreeAt there) (area_start image) r.before (r.run ++ r.after) (subst (λ cs. AnyPlaced (IsFreeAt there) (area_start image) cs) r.chunks b)) [
+none_outside {image} there none h r b = elim (AnyPlaced-split (IsFreeAt there) (area_start image) r.before (r.run ++ r.after) (rw r.chunks at b)) [
   | inl front ↦ let g = free_inside there (area_start image) r.before sizes.0 front in inl (omega arith)
   | inr back ↦ let g = free_inside there (area_start image + total r.before) (r.run ++ r.after) sizes.1 back in inr (omega arith)
 ] where
@@ -84,7 +84,7 @@ resized_keeps old new found count behind h r w there out b =
     let size = found_size old found r.one in
     let all : need found.length + behind ≡ total (c ∷ r.run) = omega arith in
     keeps_replaced old new f.before (c ∷ r.run) (with_length count c ∷ gap (size_of c + behind - need count)) r.rest at h parts w.heap w.replaces there
-    (outside_apart old f.before (c ∷ r.run) r.rest at there (heap_in_parts old (f.before ++ ((c ∷ r.run) ++ r.rest)) h parts) f.there (subst (λ n. Outside at n there) all out)) b
+    (outside_apart old f.before (c ∷ r.run) r.rest at there (heap_in_parts old (f.before ++ ((c ∷ r.run) ++ r.rest)) h parts) f.there (rw all at out)) b
 
 pub resized_rest : (old new : List ℕ) (found : Found) (count behind left : ℕ) → HeapAccepted old → (r : RunBehind old found behind) → WasResized old new found count behind r → left ≡ need found.length + behind - need count → 0 < left → IsFreeChunk new (found.place.0 - 8 + need count) left
 resized_rest old new found count behind left h r w is some = by_gap left (chunks_of-tiled new (r.one.finds.before ++ ((d ∷ gap (size_of c + behind - need count)) ++ r.rest)) w.heap.tiles ∙ ap (λ n. r.one.finds.before ++ ((d ∷ gap n) ++ r.rest)) same) some where
@@ -113,7 +113,7 @@ pub resized_lists : (old mid heads : List ℕ) (found : Found) (own behind : ℕ
 resized_lists old mid heads found own behind e h r keeps lists =
     let at : ℕ = found.place.0 - 8 in
     lists_kept (Outside at (need found.length + behind)) old mid heads keeps
-    (lists_weaker (Outside (at + own) behind) (Outside at (need found.length + behind)) old heads (λ x b out. subst (λ n. Outside at (n + behind) x) e (run_outside x e h r b out)) lists)
+    (lists_weaker (Outside (at + own) behind) (Outside at (need found.length + behind)) old heads (λ x b out. rw e at (run_outside x e h r b out)) lists)
 
 -- and what is left, in front of its own
 pub regrown_lists : (mid new heads after : List ℕ) (at all taken : ℕ) → 8 ≤ taken → taken < all → AreLists (Outside at all) mid heads → Pushes mid new heads after (at + taken) → HasLists new after

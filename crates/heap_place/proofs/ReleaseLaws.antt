@@ -76,7 +76,7 @@ given {old} {mid} new {at} size {name} {live} (fixed bytes owner) h f takes is h
       area = area;
       clears = tt;
       others = record { same = λ t ts ne. wrote_slot old new f.before (c ∷ []) f.after at t (heap_at h f).tiles (no_table h f) m.there first ts };
-      spelled = subst (λ image. Spelled image at (free size)) (sym emptied) (has_free mid at size header);
+      spelled = rw (← emptied) at (has_free mid at size header);
       word = ap (λ x. u32_at x at) emptied ∙ first_is old at size is (omega arith) (omega arith);
     }
 
@@ -98,7 +98,7 @@ gave_back_at {old} new {at} size {name} {live} {chunk} h own f takes is header e
     let exact = chunks_of-tiled new (f.before ++ free size ∷ f.after) all.tiles in
     let start = same_start old new r.head in (
       (exchanges_parts old new at (λ c. freed c ∷ []) f.before chunk f.after h (named_live_chunk name at live chunk f.named) f.chunks there).1
-          (subst (λ n. Becomes old new (f.before ++ free n ∷ f.after)) takes (becomes_heap old new (f.before ++ free size ∷ f.after) r.head all)),
+          (rw takes at (becomes_heap old new (f.before ++ free size ∷ f.after) r.head all)),
       record { before = f.before; after = f.after; chunks = exact; there = omega arith },
       keeps_replaced old new f.before (chunk ∷ []) (free size ∷ []) f.after at h f.chunks all r,
       replaced_plain old new f.before (chunk ∷ []) (free size ∷ []) f.after at f.chunks all r (free_plain new at size [] w.word (omega arith) (λ there none. absurd none)),
@@ -176,7 +176,7 @@ own_slot_is {old} {found} h f loose = by_chunk f.chunk f.finds where
   by_chunk : (c : Chunk) → Finds old found.name.0 f.live c (found.place.0 - 8) → IsSlot old found.name.0
   by_chunk (free size) g = absurd g.named
   by_chunk (fixed bytes o) g = absurd (loose (f.lock_is ∙ same_lock (sym (fixed_live_is (found.place.0 - 8) bytes o g.named))))
-  by_chunk (movable bytes l o s) g = subst (λ n. IsSlot old n) g.named.0 (own_slot old _ _ f.live bytes l o s h g)
+  by_chunk (movable bytes l o s) g = rw g.named.0 at (own_slot old _ _ f.live bytes l o s h g)
 
 pub own_slot_within : {old : Memory} (new : Memory) {found : Found} (all : ℕ) → HoldsHeap old → (f : IsOne old.bytes found) → found.lock ≢ fixed_lock → new.lents ≡ old.lents → new.bytes ≡ overwritten old.bytes (found.place.0 - 8) (u32_bytes (2 ^ 31 + all))
     → IsWithin new found.name.0 4 × IsSlot new.bytes found.name.0

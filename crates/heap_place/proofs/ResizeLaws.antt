@@ -222,7 +222,7 @@ resized {old} {filled} mid {new} {found} count {behind} h r fits filled_is wrote
     let behind_it =
     subst (λ n. SpelledAll new n (gap left) (at + total (c ∷ r.run))) (ap (λ n. at + n) (sym taken))
     (gap_spelled filled (need count) (at + need count) left (at + total (c ∷ r.run)) refl (omega arith) (omega arith) (omega arith) len3 w3 wrote_left) in
-    let done = rewritten old new _ at one.live c r.run d (gap left) r.rest h f r.parts r.all_free (gap_free left) (subst (λ n. WroteWithin old new at n) end w) (spelled, behind_it) kind.1 kind.2
+    let done = rewritten old new _ at one.live c r.run d (gap left) r.rest h f r.parts r.all_free (gap_free left) (rw end at w) (spelled, behind_it) kind.1 kind.2
     (kind.3 (finds_callers old _ one.live c at h f)) in record {
       becomes = becomes_heap old new (f.before ++ ((d ∷ gap left) ++ r.rest)) done.replaces.head done.heap;
       plain = replaced_plain old new f.before (c ∷ r.run) (d ∷ gap left) r.rest at (f.chunks ∙ ap (λ cs. f.before ++ c ∷ cs) r.parts) done.heap done.replaces (λ there p. elim p [
@@ -241,8 +241,8 @@ pub resized_by : (old filled mid new : List ℕ) (found : Found) (count behind s
 resized_by old filled mid new found count behind size own gained header h r fits a b g e filled_is wrote is has =
     let at : ℕ = found.place.0 - 8 in
     resized mid count h r fits (filled_is ∙ ap (λ n. overwritten old (found.place.0 + found.length) (replicate n 0)) g)
-    (subst (λ n. WroteRest filled mid (at + need count) (n + behind - need count)) b (subst (λ n. WroteRest filled mid (at + n) (own + behind - n)) a wrote))
-    (is ∙ ap (λ x. overwritten mid at (header_words at x)) e) (subst (λ x. HasHeader new at x) e has)
+    (rw b at (rw a at wrote))
+    (is ∙ ap (λ x. overwritten mid at (header_words at x)) e) (rw e at has)
 
 -- ---- shrinking
 
@@ -258,4 +258,4 @@ shrinks old new found count h one x =
     let live = named_live_chunk found.name.0 at one.live c f.named in
     let taken = size_of-with_length c count live in
     let left : size_of c + 0 - need count ≡ size_of c - size_of (with_length count c) = omega arith in
-    (exchanges_parts old new at (shrunk count) f.before c f.after h live f.chunks f.there).1 (subst (λ n. Becomes old new (f.before ++ ((with_length count c ∷ gap n) ++ f.after))) left (x (none_behind old found one)))
+    (exchanges_parts old new at (shrunk count) f.before c f.after h live f.chunks f.there).1 (rw left at (x (none_behind old found one)))

@@ -113,12 +113,12 @@ search_more {image} {size} {at} {run_size} {h} s found small =
     let r = pushed_run s found in
     let z = search_size s found in
     let low = subst (λ g. run_by run_size g < size) found.header_is small in
-    let last = subst (λ n. StaysBelow size n (c ∷ [])) (sym s.ends) (below_one size run_size c low) in
+    let last = rw (← s.ends) at (below_one size run_size c low) in
     let ends : run_behind 0 (cs ++ c ∷ []) ≡ run_by run_size h = behind_push 0 cs c ∙ ap (λ n. run_behind n (c ∷ [])) s.ends ∙ behind_one run_size c ∙ sym (ap (run_by run_size) found.header_is) in
     record {
       front = r.front;
       run = r.run;
-      spelled = subst (λ xs. SpelledAll image (area_start image) xs (at + size_by h)) r.parts (pushed s found);
+      spelled = rw r.parts at (pushed s found);
       all_free = r.all_free;
       sums = r.sums;
       below = subst (λ xs. StaysBelow size 0 xs) r.parts (below_push size 0 cs c s.below last);

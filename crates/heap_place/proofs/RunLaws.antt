@@ -26,7 +26,7 @@ reads image at (c ∷ cs) s = subst (λ n. Reads image at (c ∷ cs) n) (sym (ap
 pub from_bound : {image : List ℕ} {at : ℕ} → HeapAccepted image → IsBound image at → ChunksFrom image at
 from_bound {image} h b = record {
   rest = b.after;
-  spelled = subst (λ n. SpelledAll image n b.after (length image)) (sym b.ends.there) (SpelledAll-split image (area_start image) b.before b.after (length image) (heap_in_parts image (b.before ++ b.after) h b.ends.chunks).tiles.area).1;
+  spelled = rw (← b.ends.there) at (SpelledAll-split image (area_start image) b.before b.after (length image) (heap_in_parts image (b.before ++ b.after) h b.ends.chunks).tiles.area).1;
 }
 
 pub from_running : {image : List ℕ} {at end size : ℕ} → IsBound image at → RunsUpTo image at end size → 0 < size → ChunksFrom image (end + size)
@@ -35,7 +35,7 @@ from_running {image} {end} b r some =
     let n = reads image end k.rest k.spelled in
     let is = r.there in
     let here : 0 < free_size_at image end = omega arith in
-    record { rest = n.rest; spelled = subst (λ m. SpelledAll image (end + m) n.rest (length image)) (sym is) (n.spelled here) }
+    record { rest = n.rest; spelled = rw (← is) at (n.spelled here) }
 
 pub a_chunk_there : {image : List ℕ} {at : ℕ} → ChunksFrom image at → at < length image → HasChunk image at
 a_chunk_there {image} {at} f inside = by_rest f.rest f.spelled where
@@ -56,7 +56,7 @@ none_at_the_end image at past = sym (ap size_if_free (chunk_at-none image at (λ
 
 pub run_start : {image : List ℕ} (at : ℕ) {size : ℕ} → HeapAccepted image → size ≡ free_size_at image at → RunsUpTo image at at size
 run_start {image} at h e = record {
-  runs = λ before after x. record { rest = after; spelled = subst (λ n. SpelledAll image n after (length image)) (sym x.there) (SpelledAll-split image (area_start image) before after (length image) (heap_in_parts image (before ++ after) h x.chunks).tiles.area).1; sums = refl };
+  runs = λ before after x. record { rest = after; spelled = rw (← x.there) at (SpelledAll-split image (area_start image) before after (length image) (heap_in_parts image (before ++ after) h x.chunks).tiles.area).1; sums = refl };
   there = e;
   behind = omega arith;
 }
@@ -76,7 +76,7 @@ run_more {image} {end} r some e = record {
       let is = r.there in
       let here : 0 < free_size_at image end = omega arith in
       let sum = n.sums here in
-      record { rest = n.rest; spelled = subst (λ m. SpelledAll image (end + m) n.rest (length image)) (sym is) (n.spelled here); sums = omega arith };
+      record { rest = n.rest; spelled = rw (← is) at (n.spelled here); sums = omega arith };
   there = e;
   behind = omega arith;
 }
@@ -111,7 +111,7 @@ grows old new found count behind h one e x =
     let f = one.finds in
     let c : Chunk = one.chunk in
     grows_parts old new _ count f.before c f.after h (named_live_chunk found.name.0 (found.place.0 - 8) one.live c f.named) f.chunks f.there
-    (subst (λ n. Becomes old new (f.before ++ ((with_length count c ∷ gap (size_of c + n - need count)) ++ behind_front f.after))) e (x (all_behind old found behind one e)))
+    (rw e at (x (all_behind old found behind one e)))
 
 -- ---- whether they suffice
 
@@ -135,11 +135,11 @@ in_place_no image found count own behind e b short f =
 -- the header there
 pub bound_misses : {m : Memory} {at : ℕ} → HoldsHeap m → IsBound m.bytes at → at < length m.bytes → Misses m.lents at 8
 bound_misses {m} {at} h b inside =
-    walked_misses m b.before at h.accepted h.lent (subst (λ n. SpelledAll m.bytes (area_start m.bytes) b.before n) (sym b.ends.there) (SpelledAll-split m.bytes (area_start m.bytes) b.before b.after (length m.bytes) (heap_in_parts m.bytes (b.before ++ b.after) h.accepted b.ends.chunks).tiles.area).0) inside
+    walked_misses m b.before at h.accepted h.lent (rw (← b.ends.there) at (SpelledAll-split m.bytes (area_start m.bytes) b.before b.after (length m.bytes) (heap_in_parts m.bytes (b.before ++ b.after) h.accepted b.ends.chunks).tiles.area).0) inside
 
 -- and after a free chunk that stands there
 pub bound_on : {image : List ℕ} {at size : ℕ} → HeapAccepted image → IsBound image at → size ≡ free_size_at image at → 0 < size → IsBound image (at + size)
-bound_on {image} {at} {size} h b is some = by_rest b.after b.ends.chunks (subst (λ n. SpelledAll image n b.after (length image)) (sym b.ends.there) (SpelledAll-split image (area_start image) b.before b.after (length image) (heap_in_parts image (b.before ++ b.after) h b.ends.chunks).tiles.area).1) where
+bound_on {image} {at} {size} h b is some = by_rest b.after b.ends.chunks (rw (← b.ends.there) at (SpelledAll-split image (area_start image) b.before b.after (length image) (heap_in_parts image (b.before ++ b.after) h b.ends.chunks).tiles.area).1) where
   on : (c : Chunk) (cs : List Chunk) → chunks_of image ≡ b.before ++ c ∷ cs → chunk_at image at ≡ Some c → IsBound image (at + size)
   on (free n) cs e r =
       let same : size ≡ n = is ∙ ap size_if_free r in

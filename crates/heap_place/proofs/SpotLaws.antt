@@ -24,4 +24,4 @@ claims_same old mid new at room d claims b r = let made = claims r in record { f
 -- what was cut off, by the space's value
 pub taken_chunk : (value region : Memory) (mid : List ℕ) (at room size count : ℕ) → region ≡ value → IsSpot value.bytes at room → size ≡ need count → Becomes region.bytes mid (chunks_of region.bytes) → CutsRoom region.bytes mid at room size → IsFreeChunk mid at (need count)
 taken_chunk value region mid at room size count same r e b cut =
-    subst (λ n. IsFreeChunk mid at n) e (cut_chunk _ mid at room size b (subst (λ (m : Memory). IsSpot m.bytes at room) (sym same) r) cut)
+    subst (λ n. IsFreeChunk mid at n) e (cut_chunk _ mid at room size b (rw (← same) at r) cut)

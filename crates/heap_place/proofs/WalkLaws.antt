@@ -40,7 +40,7 @@ passed_more image P Q at header p found holds = record {
 pub passed_all : (image : List ℕ) (P : List Chunk → Type 0) (at : ℕ) → HeapAccepted image → Passed image P at → length image ≤ at → P (chunks_of image)
 passed_all image P at h p beyond =
     let end : at ≡ length image = omega arith in
-    subst P (sym (chunks_of-area image p.front (subst (λ n. SpelledAll image (area_start image) p.front n) end p.spelled))) p.holds
+    subst P (sym (chunks_of-area image p.front (rw end at p.spelled))) p.holds
 
 -- the chunk of a header stands among the others
 pub passed_parts : {image : List ℕ} (P : List Chunk → Type 0) {at : ℕ} {header : Header} → HeapAccepted image → (p : Passed image P at) → (found : HasHeader image at header) → (after : List Chunk) × (chunks_of image ≡ p.front ++ found.chunk ∷ after)

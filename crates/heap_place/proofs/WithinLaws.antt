@@ -24,9 +24,9 @@ keeps_within {old} {new} before c after {at} h g was is none w =
     let wide = wrote_wider old new (at + 4) (at + size_of c) at (at + (size_of c + 0)) w (omega arith) (omega arith) in
     let same = wrote_head old new before (c ∷ []) after at heap.tiles none is wide in
     let start = same_start old new same in
-    let front = subst (λ n. SpelledAll old (area_start old) before n) (sym is) (SpelledAll-split old (area_start old) before (c ∷ after) (length old) heap.tiles.area).0 in
+    let front = rw (← is) at (SpelledAll-split old (area_start old) before (c ∷ after) (length old) heap.tiles.area).0 in
     let front_now = SpelledAll-same old new (area_start old) before at (wrote_apart old new (at + 4) (at + size_of c) (area_start old) at w (inl (omega arith))) len front in
-    let there = chunk_there new (chunks_of new) before at (read_heap new g).tiles (subst (λ n. SpelledAll new n before at) (sym start) front_now) (omega arith) in
+    let there = chunk_there new (chunks_of new) before at (read_heap new g).tiles (rw (← start) at front_now) (omega arith) in
     let word = wrote_word_apart old new (at + 4) (at + size_of c) at w (inl (omega arith)) in
     let sizes : size_of there.0 ≡ size_of c = first_size new at there.0 there.1 ∙ ap size_field word ∙ sym (first_size old at c m.spelled.0) in
     let area : WroteArea old new at (at + (size_of c + 0)) = record { mid = new; slot = at; area = wide; word = wrote_none new at (at + 4); is_slot = inl refl; there = omega arith; fits = omega arith } in
@@ -42,7 +42,7 @@ named_apart name at live n e = subst (λ d. NamedHere name live at d) e n
 pub keeps_found : {old new : List ℕ} {found : Found} → HeapAccepted old → HeapAccepted new → (f : IsOne old found) → WroteWithin old new (found.place.0 - 8 + 4) (found.place.0 - 8 + need found.length) → KeepsFree Any old new
 keeps_found {old} {new} {found} h g f w there any b =
     let at : ℕ = found.place.0 - 8 in
-    keeps_within f.finds.before f.chunk _ h g f.finds.chunks f.finds.there (no_slots found.name.0 f.live at f.chunk f.finds.named) (subst (λ n. WroteWithin old new (at + 4) (at + n)) (found_size old found f) w) there
+    keeps_within f.finds.before f.chunk _ h g f.finds.chunks f.finds.there (no_slots found.name.0 f.live at f.chunk f.finds.named) (rw (found_size old found f) at w) there
     (live_apart at there f.chunk (λ size e. named_apart found.name.0 at f.live f.finds.named e)) b
 
 -- its second word
@@ -63,7 +63,7 @@ keeps_body old new found at part h f within is =
 -- so the lists stay, where the region's value was the space's
 pub body_lists : (old region : Memory) (new heads : List ℕ) (found : Found) (at : ℕ) (part : List ℕ) → region ≡ old → HeapAccepted old.bytes → IsOne old.bytes found → at + length part ≤ found.length → new ≡ overwritten region.bytes (found.place.0 + at) part → HasLists region.bytes heads → HasLists new heads
 body_lists old region new heads found at part same h f within is lists =
-    lists_kept Any _ new heads (keeps_body _ new found at part h f within (is ∙ ap (λ (m : Memory). overwritten m.bytes (found.place.0 + at) part) same)) (subst (λ (m : Memory). HasLists m.bytes heads) same lists)
+    lists_kept Any _ new heads (keeps_body _ new found at part h f within (is ∙ ap (λ (m : Memory). overwritten m.bytes (found.place.0 + at) part) same)) (rw same at lists)
 
 -- ---- the directory word
 
@@ -75,7 +75,7 @@ keeps_directory {old} {new} {word} h is names there any b =
     let all = SpelledAll-end old (area_start old) (chunks_of old) (length old) heap.tiles.area in
     let start = named_start old new word names in
     record {
-      begins = subst (λ n. AnyPlaced (IsFreeAt there) n (chunks_of new)) (sym start) (subst (λ cs. AnyPlaced (IsFreeAt there) (area_start old) cs) (sym names.chunks) b);
+      begins = rw (← start) at (rw (← names.chunks) at b);
       first = wrote_word_apart old new 12 (12 + 4) there w (inr (omega arith, omega arith));
       second = wrote_word_apart old new 12 (12 + 4) (there + 4) w (inr (omega arith, omega arith));
     }

@@ -13,4 +13,4 @@ size_at-found-requires c =
 pub returns-then-found-size-clause-room : goal.returns-then-found-size-clause-room
 returns-then-found-size-clause-room c =
     subst (λ n. IsSpot c.args.region.now.bytes c.head-at.result n) (sym c.size_at-found.ensures)
-    (subst (λ n. IsSpot c.args.region.now.bytes n (size_field (u32_at c.args.region.now.bytes n))) (sym c.head-at.ensures) (chunk_spot (listed_chunk c.loop-class.class c.requires.heap.accepted c.requires.lists c.loop-class-test.true (λ e. c.if-at-ne0.true (c.head-at.ensures ∙ e)))))
+    (rw (← c.head-at.ensures) at (chunk_spot (listed_chunk c.loop-class.class c.requires.heap.accepted c.requires.lists c.loop-class-test.true (λ e. c.if-at-ne0.true (c.head-at.ensures ∙ e)))))

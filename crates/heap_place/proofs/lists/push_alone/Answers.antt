@@ -10,4 +10,4 @@ returns-clause-same c = one_word c.push.ensures.pushed.links
 
 pub returns-clause-lists : goal.returns-clause-lists
 returns-clause-lists c = alone_lists
-    (subst (λ heads. AreLists (ButAt c.args.at) c.args.region.now.bytes heads) (sym c.empty.ensures) (new_lists (ButAt c.args.at) c.args.region.now.bytes)) c.push.ensures.pushed
+    (rw (← c.empty.ensures) at (new_lists (ButAt c.args.at) c.args.region.now.bytes)) c.push.ensures.pushed

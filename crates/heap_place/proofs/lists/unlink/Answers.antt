@@ -14,5 +14,5 @@ take_out-requires-clause-free c =
 
 pub returns-then-size_at-room-clause-lists : goal.returns-then-size_at-room-clause-lists
 returns-then-size_at-room-clause-lists c =
-    let chunk = subst (λ n. IsFreeChunk c.args.region.now.bytes c.args.room.at n) (sym c.size_at.ensures ∙ c.if-size_at-room.true) (spot_front c.requires.heap.accepted c.requires.some c.requires.room) in
+    let chunk = rw (sym c.size_at.ensures ∙ c.if-size_at-room.true) at (spot_front c.requires.heap.accepted c.requires.some c.requires.room) in
     taken_outside c.take_out.ensures.same chunk c.take_out.ensures.lists

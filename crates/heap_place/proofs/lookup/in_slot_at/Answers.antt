@@ -16,7 +16,7 @@ returns-in-None-as_movable-clause-none c =
 pub returns-in-Some-resolve_known-clause-found : goal.returns-in-Some-resolve_known-clause-found
 returns-in-Some-resolve_known-clause-found c =
     slot_one c.args.place c.requires.heap.accepted (sym c.in-Some.is ∙ c.read.ensures.is) (sym c.as_movable.ensures ∙ c.in-Some-as_movable.is)
-    (subst (λ p. HoldsPlace c.args.region.now.bytes c.in-Some-as_movable.found.name.0 p) c.if-held-place.true c.in-Some-resolve_known.ensures)
+    (rw c.if-held-place.true at c.in-Some-resolve_known.ensures)
 
 pub returns-in-Some-resolve_known-clause-there : goal.returns-in-Some-resolve_known-clause-there
 returns-in-Some-resolve_known-clause-there c = movable_place c.in-Some.header c.args.place (sym c.as_movable.ensures ∙ c.in-Some-as_movable.is)

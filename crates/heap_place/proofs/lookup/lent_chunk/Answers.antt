@@ -23,7 +23,7 @@ returns-in-Some-clause-found c =
     (header_read c.at-header.ensures) (sym c.as_movable.ensures ∙ c.in-Some.is)
 
 pub returns-in-None-clause-found : goal.returns-in-None-clause-found
-returns-in-None-clause-found c = subst (λ n. IsFound c.args.region.now.bytes n c.fixed_at.result) (sym c.fixed_at.ensures.name_is) c.fixed_at.ensures
+returns-in-None-clause-found c = rw (← c.fixed_at.ensures.name_is) at c.fixed_at.ensures
 
 pub returns-in-None-clause-there : goal.returns-in-None-clause-there
 returns-in-None-clause-there c =

@@ -6,7 +6,7 @@ use Rattle.heap_place.proofs.LentOwners.{freed_none_lent}
 use Rattle.heap_place.proofs.owned.release_owned.Goals as goal
 
 pub loop-at-init : goal.loop-at-init
-loop-at-init c = (subst (λ n. Freeing c.args.region.now.bytes c.args.region.now.bytes c.args.owner n 0) (sym c.area_start-at.ensures) (freeing_start c.args.owner c.requires.heap.accepted), refl, c.requires.heap, c.requires.none_lent)
+loop-at-init c = (rw (← c.area_start-at.ensures) at (freeing_start c.args.owner c.requires.heap.accepted), refl, c.requires.heap, c.requires.none_lent)
 
 pub at_with_size-header-requires : goal.at_with_size-header-requires
 at_with_size-header-requires c =

@@ -29,15 +29,15 @@ returns-then-run_size-size-clause-room c =
     let image = c.args.region.now.bytes in
     let found = search_found c.requires.heap.accepted c.loop-at.invariant c.at_with_size-header.ensures.header in
     subst (λ n. IsRoom image (c.loop-at.at + n - c.run_with-run_size.result) c.run_with-run_size.result) (sym c.at_with_size-header.ensures.size)
-    (subst (λ n. IsRoom image (c.loop-at.at + size_by c.at_with_size-header.result.0 - n) n) (sym c.run_with-run_size.ensures) found)
+    (rw (← c.run_with-run_size.ensures) at found)
 
 pub loop-at-preserved : goal.loop-at-preserved
 loop-at-preserved c =
     let image = c.args.region.now.bytes in
     let small = c.if-run_size-size.false in
-    let more = search_more c.loop-at.invariant c.at_with_size-header.ensures.header (subst (λ n. n < c.args.size) c.run_with-run_size.ensures small) in
+    let more = search_more c.loop-at.invariant c.at_with_size-header.ensures.header (rw c.run_with-run_size.ensures at small) in
     subst (λ n. Searched image c.args.size (c.loop-at.at + n) c.run_with-run_size.result) (sym c.at_with_size-header.ensures.size)
-    (subst (λ n. Searched image c.args.size (c.loop-at.at + size_by c.at_with_size-header.result.0) n) (sym c.run_with-run_size.ensures) more)
+    (rw (← c.run_with-run_size.ensures) at more)
 
 pub returns-clause-none : goal.returns-clause-none
 returns-clause-none c = search_none c.requires.heap.accepted c.requires.some_size c.loop-at.invariant (omega arith)
