@@ -15,10 +15,10 @@ alike_at : {old new : List ℕ} {at : ℕ} (before : List Chunk) → SameChunks 
 alike_at {old} {new} before s there = there ∙ ap (λ n. n + total before) (sym (frame_start old new s.frame))
 
 pub alike_chunk : {old new : List ℕ} {at size : ℕ} → SameChunks old new → IsFreeChunk old at size → IsFreeChunk new at size
-alike_chunk s f = record { before = f.before; after = f.after; chunks = s.chunks ∙ f.chunks; there = alike_at f.before s f.there }
+alike_chunk s f = record { before = f.before; after = _; chunks = s.chunks ∙ f.chunks; there = alike_at _ s f.there }
 
 pub alike_spot : (old new : List ℕ) (at size : ℕ) → SameChunks old new → IsSpot old at size → IsSpot new at size
-alike_spot old new at size s r = record { before = r.before; run = r.run; after = r.after; chunks = s.chunks ∙ r.chunks; all_free = r.all_free; there = alike_at r.before s r.there; sums = r.sums }
+alike_spot old new at size s r = record { before = r.before; run = r.run; after = _; chunks = s.chunks ∙ r.chunks; all_free = r.all_free; there = alike_at _ s r.there; sums = r.sums }
 
 pub alike_cuts : {old mid : List ℕ} (new : List ℕ) (at room size : ℕ) → SameChunks old mid → CutsRoom mid new at room size → CutsRoom old new at room size
 unfolding alike_spot
@@ -37,7 +37,7 @@ alike_behind old new found behind s r =
       one = record {
         live = o.live;
         chunk = o.chunk;
-        finds = record { before = f.before; after = f.after; chunks = s.chunks ∙ f.chunks; there = alike_at f.before s f.there; named = f.named };
+        finds = record { before = f.before; after = _; chunks = s.chunks ∙ f.chunks; there = alike_at _ s f.there; named = f.named };
         behind_header = o.behind_header;
         name_is = o.name_is;
         count = o.count;
@@ -71,7 +71,7 @@ chunk_of_class {image} {class} {at} {size} h f of_class =
 pub taken_outside : {old new heads : List ℕ} {at size : ℕ} → SameChunks old new → IsFreeChunk old at size → AreLists (ButAt at) new heads → AreLists (Outside at size) new heads
 taken_outside {new} {heads} {at} {size} s f lists =
     let g = alike_chunk s f in
-    lists_weaker (ButAt at) (Outside at size) new heads (λ x b apart. others_outside g.before size g.after x s.frame.accepted g.chunks g.there b apart) lists
+    lists_weaker _ _ new _ (λ x b apart. others_outside _ size _ x s.frame.accepted g.chunks g.there b apart) lists
 
 pub linked_past : {old new heads : List ℕ} {class before at word : ℕ} → HeapAccepted old → HasLists old heads → class < class_count → LeadsTo old heads class before at → IsFreeOf old class at → before ≢ 0 → word ≡ second_of old at → word < 2 ^ 32
     → new ≡ overwritten old (before + 4) (u32_bytes word) → SameChunks old new × AreLists (ButAt at) new heads
@@ -84,4 +84,4 @@ linked_past {before} {word} h lists below leads f some word_is small is =
 
 -- nothing leads to it
 pub linked_nowhere : {image heads : List ℕ} {class before at : ℕ} → HasLists image heads → class < class_count → LeadsTo image heads class before at → IsFreeOf image class at → before ≡ 0 → AreLists (ButAt at) image heads
-linked_nowhere {image} {heads} {class} {at} lists below leads f none = not_listed image heads class at lists below (rw none at leads.looking) f.of_class
+linked_nowhere {image} {heads} {class} {at} lists below leads f none = not_listed _ _ _ at lists below (rw none at leads.looking) f.of_class

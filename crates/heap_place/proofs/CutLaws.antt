@@ -28,7 +28,7 @@ gap_spelled old {mid} {new} {at} size at_rest (suc n) end e f least inside len w
 pub rest_within : (old mid : List ℕ) (at_rest rest low high : ℕ) → WroteRest old mid at_rest rest → low ≤ at_rest → at_rest + rest ≤ high → high ≤ length old → rest % 8 ≡ 0 → WroteWithin old mid low high
 rest_within old mid at_rest rest low high r a b c whole = elim r [
   | inl none ↦ subst (λ image. WroteWithin old image low high) (sym none.1) (wrote_none old low high)
-  | inr some ↦ wrote_wider old mid at_rest _ low high (wrote_word old mid at_rest (2 ^ 31 + rest) some.1.0 (omega arith)) a (omega arith)
+  | inr some ↦ wrote_wider old mid _ _ low high (wrote_word old mid _ _ some.1.0 (omega arith)) a (omega arith)
 ]
 
 -- what is left has a plain first word
@@ -37,15 +37,15 @@ pub gap_plain : (old : List ℕ) {mid new : List ℕ} {at : ℕ} (size at_rest r
 gap_plain old size at_rest zero e least inside small whole w r len there h = absurd h
 gap_plain old {mid} {new} {at} size at_rest (suc n) e least inside small whole w r len there h = elim r [
   | inl none ↦ absurd (omega arith)
-  | inr some ↦ free_plain new at_rest (suc n) [] (wrote_word_apart mid new at (at + 8) at_rest w (inr (omega arith, omega arith)) ∙ ap (λ x. u32_at x at_rest) some.1.0 ∙ u32_at-written (2 ^ 31 + suc n) at_rest old (omega arith) (omega arith)) small (λ there none. absurd none) there h
+  | inr some ↦ free_plain new _ _ [] (wrote_word_apart mid new at _ _ w (inr (omega arith, omega arith)) ∙ ap (λ x. u32_at x at_rest) some.1.0 ∙ u32_at-written _ _ old (omega arith) (omega arith)) small (λ there none. absurd none) there h
 ]
 
 -- and so has what was cut off
 cut_plain : (old mid : List ℕ) {new : List ℕ} (at size rest : ℕ) → 8 ≤ size → at + size + rest ≤ length mid → size + rest < 2 ^ 24 → rest % 8 ≡ 0 → new ≡ overwritten mid at (u32_bytes (2 ^ 31 + size)) → WroteRest old mid (at + size) rest → length mid ≡ length old
     → (there : ℕ) → AnyPlaced (IsFreeAt there) at (free size ∷ gap rest) → IsPlain (u32_at new there)
 cut_plain old mid {new} at size rest least inside small whole is r len =
-    free_plain new at size (gap rest) (ap (λ x. u32_at x at) is ∙ u32_at-written (2 ^ 31 + size) at mid (omega arith) (omega arith)) (omega arith)
-    (gap_plain old size (at + size) rest refl least inside (omega arith) whole (wrote_wider mid new at (at + 4) at (at + 8) (wrote_word mid new at (2 ^ 31 + size) is (omega arith)) (omega arith) (omega arith)) r len)
+    free_plain new at size _ (ap (λ x. u32_at x at) is ∙ u32_at-written _ at mid (omega arith) (omega arith)) (omega arith)
+    (gap_plain old size _ rest refl least inside (omega arith) whole (wrote_wider mid new at _ at _ (wrote_word mid new at _ is (omega arith)) (omega arith) (omega arith)) r len)
 
 pub was_cut : {old : List ℕ} (mid : List ℕ) {new : List ℕ} {at room : ℕ} (size : ℕ) → HeapAccepted old → (r : IsSpot old at room) → 8 ≤ size → size % 8 ≡ 0 → size ≤ room → WroteRest old mid (at + size) (room - size)
     → new ≡ overwritten mid at (u32_bytes (2 ^ 31 + size)) → HasHeader new at (headers.Free size) → Becomes old new (chunks_of old) × (chunks_of new ≡ r.before ++ (free size ∷ (gap (room - size) ++ r.after))) × KeepsFree (Outside at room) old new × WritesPlain old new
@@ -83,7 +83,7 @@ room_facts image at size accepted r =
     (omega arith, omega arith, m.most)
 
 pub rest_length : (old new : List ℕ) (at size : ℕ) → WroteRest old new at size → at + size ≤ length old → size % 8 ≡ 0 → length new ≡ length old
-rest_length old new at size w inside whole = (rest_within old new at size at (at + size) w (omega arith) (omega arith) inside whole).len
+rest_length old new at size w inside whole = (rest_within old new at size at _ w (omega arith) (omega arith) inside whole).len
 
 -- ---- a free chunk is claimed
 
@@ -121,7 +121,7 @@ zeroed {h} new {at} count lock owner slot found len first second body =
         lock_fits = s.1.lock_fits;
         owner_fits = s.1.owner_fits;
         h_offset_fits = s.1.h_offset_fits;
-        body = seen-movable lock owner _ s.2 ∙ ap (λ n. slice_range new (at + 8) (at + 8 + n)) zeros ∙ body;
+        body = seen-movable lock _ _ s.2 ∙ ap (λ n. slice_range new (at + 8) (at + 8 + n)) zeros ∙ body;
         inside = omega arith;
       },
       s.2,
@@ -207,7 +207,7 @@ overwritten_whole old part len = let all : length old ≤ 0 + length part = omeg
 pub wrote_words : (old new : List ℕ) (at count lock owner way : ℕ) → at + need count ≤ length old → new ≡ overwritten old at (live_words count lock owner way) → WroteWithin old new at (at + 8)
 wrote_words old new at count lock owner way inside is =
     let eight = live_words_length count lock owner way in
-    subst (λ n. WroteWithin old new at (at + n)) eight (wrote_part old new at (live_words count lock owner way) is (omega arith))
+    subst (λ n. WroteWithin old new at (at + n)) eight (wrote_part old new at _ is (omega arith))
 
 pub fixed_claimed : {old mid new : List ℕ} {at : ℕ} (count owner : ℕ) → HeapAccepted old → (r : IsFreeChunk old at (need count)) → 0 < owner → owner < 15 → mid ≡ overwritten old at (header_words at (headers.Fixed count owner)) → HasHeader mid at (headers.Fixed count owner)
     → new ≡ overwritten mid (at + 8) (replicate count 0) → Becomes old new (r.before ++ fixed (replicate count 0) owner ∷ r.after) × KeepsFree (ButAt at) old new × WritesPlain old new

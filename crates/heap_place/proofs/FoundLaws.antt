@@ -44,19 +44,19 @@ middle_of image before mid after at h e =
 
 -- a free chunk, where it stands
 pub chunk_middle : {image : List ℕ} {at size : ℕ} → HeapAccepted image → (f : IsFreeChunk image at size) → Middle image f.before (free size ∷ []) f.after at
-chunk_middle {image} {at} {size} h f = middle_of image f.before (free size ∷ []) f.after at (heap_in_parts image (f.before ++ free size ∷ f.after) h f.chunks) f.there
+chunk_middle {image} {at} {size} h f = middle_of _ _ _ _ at (heap_in_parts _ _ h f.chunks) f.there
 
 -- a chunk of a name, where it stands
 pub finds_middle : {image : List ℕ} {name at : ℕ} {live : LiveChunk} {c : Chunk} → HeapAccepted image → (f : Finds image name live c at) → Middle image f.before (c ∷ []) f.after at
-finds_middle {image} {at} {c} h f = middle_of image f.before (c ∷ []) f.after at (heap_in_parts image (f.before ++ c ∷ f.after) h f.chunks) f.there
+finds_middle {image} {at} {c} h f = middle_of _ _ _ _ at (heap_in_parts _ _ h f.chunks) f.there
 
 -- the slot of a movable chunk
 pub own_slot : (image : List ℕ) (name at : ℕ) (live : LiveChunk) (bytes : List ℕ) (lock owner slot : ℕ) → HeapAccepted image → Finds image name live (movable bytes lock owner slot) at → IsSlot image slot
 own_slot image name at live bytes lock owner slot h f =
-    let heap = heap_in_parts image (f.before ++ movable bytes lock owner slot ∷ f.after) h f.chunks in
+    let heap = heap_in_parts _ _ h f.chunks in
     let place : ℕ = area_start image + total f.before + 8 in
     let here : BodyHere slot place (area_start image + total f.before) (movable bytes lock owner slot) = (refl, refl) in
-    ((heap.tied slot place (omega arith)).1 (AnyPlaced-mid (BodyHere slot place) (area_start image) f.before (movable bytes lock owner slot) f.after here)).0
+    ((heap.tied slot place (omega arith)).1 (AnyPlaced-mid _ _ _ _ _ here)).0
 
 -- a chunk of a name is no table
 pub no_slots : (name : ℕ) (live : LiveChunk) (at : ℕ) (c : Chunk) → NamedHere name live at c → HoldNoSlots (c ∷ [])
@@ -78,13 +78,13 @@ fields_of f = record { name_is = f.name_is; count = f.count; lock_is = f.lock_is
 
 -- what the whole chunk takes
 pub found_size : (image : List ℕ) (found : Found) → (f : IsOne image found) → need found.length ≡ size_of f.chunk
-found_size image found f = ap need f.count ∙ named_size found.name.0 f.live (found.place.0 - 8) f.chunk f.finds.named
+found_size image found f = ap need f.count ∙ named_size _ _ _ _ f.finds.named
 
 -- where it lies
 pub found_inside : (image : List ℕ) (found : Found) → HeapAccepted image → IsOne image found → found.place.0 - 8 + need found.length ≤ length image
 found_inside image found h f =
     let size = found_size image found f in
-    let inside = (Spelled-size image (found.place.0 - 8) f.chunk (finds_spelled image _ f.live f.chunk _ h f.finds)).1 in
+    let inside = (Spelled-size _ _ _ (finds_spelled _ _ _ _ _ h f.finds)).1 in
     omega arith
 
 -- what its name stands for
@@ -107,5 +107,5 @@ when_movable image name found f P loose of_movable = by_chunk f.chunk f.finds wh
 
 pub bytes_inside : (image : List ℕ) (found : Found) → HeapAccepted image → IsOne image found → found.place.0 + found.length ≤ length image
 bytes_inside image found h f =
-    let inside = (finds_body image found.name.0 f.live f.chunk (found.place.0 - 8) h f.finds).inside in
+    let inside = (finds_body _ _ _ _ _ h f.finds).inside in
     omega arith

@@ -27,11 +27,11 @@ total_one before c = let e = total-append before (c ∷ []) in omega arith
 bound_after : (image : List ℕ) (before : List Chunk) (c : Chunk) (after : List Chunk) {at : ℕ} (size : ℕ) → chunks_of image ≡ before ++ c ∷ after → at ≡ area_start image + total before → size ≡ size_of c → IsBound image (at + size)
 bound_after image before c after size e there is =
     let sum = total_one before c in
-    record { before = before ++ c ∷ []; after = after; ends = record { chunks = e ∙ sym (append_assoc before (c ∷ []) after); there = omega arith } }
+    record { before = before ++ c ∷ []; after = _; ends = record { chunks = e ∙ sym (append_assoc before (c ∷ []) after); there = omega arith } }
 
 -- after a free chunk
 pub chunk_bound : {image : List ℕ} {at size : ℕ} → IsFreeChunk image at size → IsBound image (at + size)
-chunk_bound {image} {size} f = bound_after image f.before (free size) f.after size f.chunks f.there refl
+chunk_bound {image} {size} f = bound_after _ _ _ _ size f.chunks f.there refl
 
 -- after a chunk whose header is read
 pub header_bound : {image : List ℕ} {at : ℕ} {header : Header} → HeapAccepted image → IsBound image at → HasHeader image at header → IsBound image (at + size_by header) × (at + size_by header ≤ length image) × (8 ≤ size_by header)
@@ -62,18 +62,18 @@ header_bound {image} {at} {header} h b found = by_after b.after b.ends.chunks wh
 
 pub gathered_lists : {old mid new heads after : List ℕ} {at : ℕ} (size : ℕ) → 8 ≤ size → AreLists (Before at) old heads → KeepsFree (Outside at size) old mid → Pushes mid new heads after at → AreLists (Before (at + size)) new after
 gathered_lists {old} {mid} {heads} {at} size least a keeps p =
-    push_lists (Before at) (Before (at + size)) (lists_kept (Before at) old mid heads (λ x before b. keeps x (inl before) b) a) (λ x b before. (omega arith, λ e. omega arith)) (omega arith) p
+    push_lists _ _ (lists_kept _ old mid _ (λ x before b. keeps x (inl before) b) a) (λ x b before. (omega arith, λ e. omega arith)) (omega arith) p
 
 pub passed_lists : {image heads : List ℕ} (at more : ℕ) → AreLists (Before at) image heads → AreLists (Before (at + more)) image heads
-passed_lists {image} {heads} at more a = lists_weaker (Before at) (Before (at + more)) image heads (λ x b before. omega arith) a
+passed_lists {image} {heads} at more a = lists_weaker _ _ _ _ (λ x b before. omega arith) a
 
 -- what is done keeps those in front
 pub kept_lists : (old new heads : List ℕ) (at to : ℕ) → at ≤ to → KeepsFree (Before at) old new → AreLists (Before at) old heads → AreLists (Before to) new heads
-kept_lists old new heads at to more keeps a = lists_weaker (Before at) (Before to) new heads (λ x b before. omega arith) (lists_kept (Before at) old new heads keeps a)
+kept_lists old new heads at to more keeps a = lists_weaker _ _ new _ (λ x b before. omega arith) (lists_kept _ old new _ keeps a)
 
 -- a chunk that ends there is put into its list
 pub pushed_lists : {old new heads after : List ℕ} (end room : ℕ) → 8 ≤ room → room ≤ end → AreLists (Before (end - room)) old heads → Pushes old new heads after (end - room) → AreLists (Before end) new after
-pushed_lists end room least within a p = push_lists (Before (end - room)) (Before end) a (λ x b before. (omega arith, λ e. omega arith)) (omega arith) p
+pushed_lists end room least within a p = push_lists _ _ a (λ x b before. (omega arith, λ e. omega arith)) (omega arith) p
 
 -- the only one
 pub alone_lists : {old new heads after : List ℕ} {at : ℕ} → AreLists (ButAt at) old heads → Pushes old new heads after at → HasLists new after

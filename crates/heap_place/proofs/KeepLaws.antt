@@ -42,7 +42,7 @@ keeps_tiled {old} {new} {before} {mid} {others} {after} {at} was now r there apa
   found = subst (λ cs. AnyPlaced (IsFreeAt there) (area_start old) cs) was b
 
   is : AnyPlaced (IsFreeAt there) (area_start old) (before ++ (others ++ after)) → BeginsFree new there
-  is a = rw (← (same_start old new r.head)) at (rw (← (chunks_of-tiled new (before ++ (others ++ after)) now)) at a)
+  is a = rw (← (same_start old new r.head)) at (rw (← (chunks_of-tiled new _ now)) at a)
 
 pub keeps_replaced : (old new : List ℕ) (before mid others after : List Chunk) (at : ℕ) → HeapAccepted old → chunks_of old ≡ before ++ (mid ++ after) → IsHeap new (before ++ (others ++ after)) → Replaces old new before mid others after at
     → KeepsFree (NotAmong at mid) old new
@@ -51,7 +51,7 @@ keeps_replaced old new before mid others after at h was now r = keeps_tiled was 
 -- what lies outside of them is not among them
 pub outside_apart : (image : List ℕ) (before mid after : List Chunk) (at there : ℕ) → IsHeap image (before ++ (mid ++ after)) → at ≡ area_start image + total before → Outside at (total mid) there → NotAmong at mid there
 outside_apart image before mid after at there h is o these =
-    let sizes = SpelledAll-takes image at mid (at + total mid) (middle_of image before mid after at h is).spelled in
+    let sizes = SpelledAll-takes _ at mid _ (middle_of _ _ mid _ at h is).spelled in
     let f = free_inside there at mid sizes these in
     elim o [ inl front ↦ omega arith | inr back ↦ omega arith ]
 
@@ -77,7 +77,7 @@ others_outside {image} before size after there h was is b apart = elim (AnyPlace
   found = subst (λ cs. AnyPlaced (IsFreeAt there) (area_start image) cs) was b
 
   sizes : EveryPlaced TakesBytes (area_start image) before × EveryPlaced TakesBytes (area_start image + total before) (free size ∷ after)
-  sizes = EveryPlaced-split TakesBytes (area_start image) before (free size ∷ after) (SpelledAll-takes image (area_start image) (before ++ free size ∷ after) (length image) (heap_in_parts image (before ++ free size ∷ after) h was).tiles.area)
+  sizes = EveryPlaced-split _ _ _ _ (SpelledAll-takes _ _ _ _ (heap_in_parts _ _ h was).tiles.area)
 
 -- ---- the second word of a free chunk
 
@@ -123,7 +123,7 @@ pub links_begin : {old new : List ℕ} {at word : ℕ} (there : ℕ) → Links o
 links_begin {old} {new} there l b = rw l.chunks at (rw (links_start l) at b)
 
 pub links_plain : (old new : List ℕ) (at word : ℕ) → Links old new at word → WritesPlain old new
-links_plain old new at word l there b = let was = links_begin there l b in inr (was, l.firsts there was)
+links_plain old new at word l there b = let was = links_begin _ l b in inr (was, l.firsts there was)
 
 pub links_chunk : {old new : List ℕ} {at word there size : ℕ} → Links old new at word → IsFreeChunk old there size → IsFreeChunk new there size
 links_chunk {there} l f = record { before = f.before; after = f.after; chunks = l.chunks ∙ f.chunks; there = f.there ∙ ap (λ n. n + total f.before) (sym (links_start l)) }

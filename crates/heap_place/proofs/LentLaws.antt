@@ -22,7 +22,7 @@ one_body_within m found k n h l f other fits =
 -- one that isn't lent is changed, and takes as much
 pub one_altered_lends : (old new : Memory) (found : Found) (change : Chunk → Chunk) → HeapAccepted old.bytes → LendsBodies old → new.lents ≡ old.lents → (f : IsOne old.bytes found) → Alters old.bytes new.bytes (found.place.0 - 8) change → size_of (change f.chunk) ≡ size_of f.chunk → LendsOther old found.place.0 → LendsBodies new
 one_altered_lends old new found change h l same f x sizes other =
-    other_lends old new _ f.live f.chunk _ (λ c. change c ∷ []) h l same f.finds x (omega arith) (other_at old f other)
+    other_lends old new _ _ _ _ (λ c. change c ∷ []) h l same f.finds x (omega arith) (other_at old f other)
 
 pub relocked_holds : {old new : Memory} {found : Found} (lock : ℕ) → HoldsHeap old → new.lents ≡ old.lents → (f : IsOne old.bytes found) → Alters old.bytes new.bytes (found.place.0 - 8) (with_lock lock)
     → (0 < lock) ⊎ LendsOther old found.place.0 → HoldsHeap new
@@ -35,7 +35,7 @@ pub reowned_holds : {old new : Memory} {found : Found} (owner : ℕ) → HoldsHe
     → (0 < found.lock → 0 < owner) → HoldsHeap new
 reowned_holds {old} {new} owner h same f x owned = record {
   accepted = x.frame.accepted;
-  lent = reowned_lends old new _ f.live f.chunk _ owner h.accepted h.lent same f.finds x (λ some. owned (omega arith));
+  lent = reowned_lends old new _ _ _ _ _ h.accepted h.lent same f.finds x (λ some. owned (omega arith));
 }
 
 pub freed_holds : {old new : Memory} {found : Found} → HoldsHeap old → new.lents ≡ old.lents → (f : IsOne old.bytes found) → Alters old.bytes new.bytes (found.place.0 - 8) freed → LendsOther old found.place.0 → HoldsHeap new
@@ -52,7 +52,7 @@ bytes_size name at k live (fixed bytes owner) part n fits =
 
 pub one_written_lends : (old new : Memory) (found : Found) (k : ℕ) (part : List ℕ) → HeapAccepted old.bytes → LendsBodies old → new.lents ≡ old.lents → (f : IsOne old.bytes found) → Alters old.bytes new.bytes (found.place.0 - 8) (with_bytes k part) → k + length part ≤ found.length → LendsOther old found.place.0 → LendsBodies new
 one_written_lends old new found k part h l same f x fits other =
-    one_altered_lends old new found (with_bytes k part) h l same f x (bytes_size found.name.0 (found.place.0 - 8) k f.live f.chunk part f.finds.named (omega arith)) other
+    one_altered_lends old new _ _ h l same f x (bytes_size _ _ k _ _ part f.finds.named (omega arith)) other
 
 -- so the new memory holds a heap too
 pub written_holds : (old new : Memory) (found : Found) (k : ℕ) (part : List ℕ) → HoldsHeap old → new.lents ≡ old.lents → (f : IsOne old.bytes found) → Alters old.bytes new.bytes (found.place.0 - 8) (with_bytes k part) → k + length part ≤ found.length → LendsOther old found.place.0 → HoldsHeap new
@@ -62,7 +62,7 @@ written_holds old new found k part h same f x fits other = record { accepted = x
 
 -- a part of one
 free_part : {m : Memory} {at size : ℕ} (there n : ℕ) → HoldsHeap m → IsFreeChunk m.bytes at size → at ≤ there → there + n ≤ at + size → IsWithin m there n
-free_part {m} {at} {size} there n h f low high = part_within m at _ there n (run_within m f.before (free size ∷ []) f.after at h.accepted h.lent f.chunks f.there tt) (omega arith) (omega arith)
+free_part {m} {at} {size} there n h f low high = part_within m at _ _ n (run_within m _ (free size ∷ []) f.after at h.accepted h.lent f.chunks f.there tt) (omega arith) (omega arith)
 
 -- its two words
 pub words_within : {m : Memory} {at size : ℕ} → HoldsHeap m → IsFreeChunk m.bytes at size → IsWithin m at 8
@@ -72,14 +72,14 @@ pub first_within : {m : Memory} {at size : ℕ} → HoldsHeap m → IsFreeChunk 
 first_within {m} {at} h f = part_within m at 8 at 4 (words_within h f) (omega arith) (omega arith)
 
 pub second_within : {m : Memory} {at size : ℕ} → HoldsHeap m → IsFreeChunk m.bytes at size → IsWithin m (at + 4) 4
-second_within {m} {at} h f = part_within m at 8 (at + 4) 4 (words_within h f) (omega arith) (omega arith)
+second_within {m} {at} h f = part_within m at 8 _ 4 (words_within h f) (omega arith) (omega arith)
 
 -- the body of what is made of it, once its header is written
 pub body_still : {old new : Memory} {at : ℕ} (count : ℕ) → HoldsHeap old → IsFreeChunk old.bytes at (need count) → new.lents ≡ old.lents → length new.bytes ≡ length old.bytes → IsWithin new (at + 8) count
-body_still {old} {new} {at} count h f same len = still_within old new (at + 8) count (free_part (at + 8) count h f (omega arith) (omega arith)) same len
+body_still {old} {new} {at} count h f same len = still_within old new _ _ (free_part _ _ h f (omega arith) (omega arith)) same len
 
 pub filled_holds : {old new : Memory} {at size : ℕ} {c : Chunk} → HoldsHeap old → new.lents ≡ old.lents → (f : IsFreeChunk old.bytes at size) → Fills old.bytes new.bytes at size c → size_of c ≡ size → HoldsHeap new
-filled_holds {old} {new} {size} {c} h same f x sizes = record { accepted = (x f).frame.accepted; lent = loose_lends old new f.before (free size ∷ []) (c ∷ []) f.after h.lent same f.chunks (x f) (omega arith) tt }
+filled_holds {old} {new} {size} {c} h same f x sizes = record { accepted = (x f).frame.accepted; lent = loose_lends old new _ (free size ∷ []) (c ∷ []) f.after h.lent same f.chunks (x f) (omega arith) tt }
 
 pub length-slice : (l : List ℕ) (at n : ℕ) → at + n ≤ length l → length (slice_range l at (at + n)) ≡ n
 length-slice l at n within =
@@ -97,7 +97,7 @@ linked_holds h same s = becomes_holds h same (record { frame = s.frame; layout =
 pub row_misses : (m : Memory) (before front : List Chunk) (c : Chunk) (later after : List Chunk) (at : ℕ) → HeapAccepted m.bytes → LendsBodies m → chunks_of m.bytes ≡ before ++ ((front ++ c ∷ later) ++ after) → at ≡ area_start m.bytes + total before + total front → Misses m.lents at 8
 row_misses m before front c later after at h l e there =
     let t = total-append before front in
-    header_misses m (before ++ front) c (later ++ after) at h l (e ∙ sym (append_assoc before front (c ∷ (later ++ after)) ∙ ap (λ cs. before ++ cs) (sym (append_assoc front (c ∷ later) after)))) (omega arith)
+    header_misses m _ c _ at h l (e ∙ sym (append_assoc before front (c ∷ (later ++ after)) ∙ ap (λ cs. before ++ cs) (sym (append_assoc front (c ∷ later) after)))) (omega arith)
 
 pub name_size : (owner slot : ℕ) (c : Chunk) → size_of (with_name owner slot c) ≡ size_of c
 name_size owner slot (free size) = refl
@@ -105,7 +105,7 @@ name_size owner slot c = refl
 
 -- one without locks isn't lent
 pub loose_other : (m : Memory) (found : Found) → LendsBodies m → (f : IsOne m.bytes found) → found.lock ≡ 0 → LendsOther m found.place.0
-loose_other m found l f unlocked = each_to (IsLentBody m.bytes) (λ x. x.at ≢ found.place.0) m.lents l go where
+loose_other m found l f unlocked = each_to _ (λ x. x.at ≢ found.place.0) _ l go where
   loose : (c : Chunk) → NamedHere found.name.0 f.live (found.place.0 - 8) c → IsTrue (stays_put c) → ⊥
   loose (free size) n = λ s. n
   loose (movable bytes zero owner slot) n = λ s. absurd cc
@@ -194,7 +194,7 @@ each_less_by P false at l ls first others rest = (first, rest)
 
 each_less : (P : Lent → Type 0) (at : ℕ) (lents : List Lent) → EachLent P lents → EachLent P (without at lents)
 each_less P at [] each = tt
-each_less P at (l ∷ ls) each = each_less_by P (l.at == at) at l ls each.0 each.1 (each_less P at ls each.1)
+each_less P at (l ∷ ls) each = each_less_by P _ at l ls each.0 each.1 (each_less P at ls each.1)
 
 -- each lent body stays one where bytes of a chunk are written, and all but one are still lent
 pub back_lends : (old new : Memory) (found : Found) (part : List ℕ) → HeapAccepted old.bytes → LendsBodies old → new.lents ≡ without found.place.0 old.lents → (f : IsOne old.bytes found) → Alters old.bytes new.bytes (found.place.0 - 8) (with_bytes 0 part) → length part ≡ found.length → LendsBodies new

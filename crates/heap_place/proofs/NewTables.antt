@@ -25,18 +25,18 @@ table_written {old} {h} {z} {at} accepted chained r h_is header z_is =
     let zeros : length (replicate {A = ℕ} 64 0) ≡ 64 = length-replicate {A = ℕ} 64 0 in
     let head = wrote_words old h at 64 fixed_lock 0 0 inside h_is in
     let body = wrote_part h z (at + 8) (replicate 64 0) z_is (omega arith) in
-    let part : slice_range z (at + 8) (at + 8 + 64) ≡ replicate 64 0 = ap (λ x. take (at + 8 + 64 - (at + 8)) (drop (at + 8) x)) z_is ∙ slice-overwritten h (at + 8) (replicate 64 0) 64 zeros (omega arith) in
+    let part : slice_range z (at + 8) (at + 8 + 64) ≡ replicate 64 0 = ap (λ x. take (at + 8 + 64 - (at + 8)) (drop (at + 8) x)) z_is ∙ slice-overwritten h _ _ 64 zeros (omega arith) in
     let m = header_fixed 64 0 header.chunk header.header_is in
     let s = subst (λ c. Spelled h at c) m.1.0 header.spelled in
     let many : length m.0 ≡ 64 = m.1.1 in
     let same : length (replicate {A = ℕ} 64 0) ≡ length m.0 = zeros ∙ sym many in
-    let first = wrote_word_apart h z (at + 8) (at + 8 + length (replicate {A = ℕ} 64 0)) at body (inl (omega arith)) in
-    let second = wrote_word_apart h z (at + 8) (at + 8 + length (replicate {A = ℕ} 64 0)) (at + 4) body (inl (omega arith)) in
+    let first = wrote_word_apart h z _ _ at body (inl (omega arith)) in
+    let second = wrote_word_apart h z _ _ _ body (inl (omega arith)) in
     record {
       chained = chained;
       heap = heap_in_parts old (r.before ++ free 72 ∷ r.after) accepted r.chunks;
       there = r.there;
-      wrote = wrote_then old h z at _ (wrote_wider old h at (at + 8) at (at + 72) head (omega arith) (omega arith)) (wrote_wider h z (at + 8) (at + 8 + length (replicate {A = ℕ} 64 0)) at (at + 72) body (omega arith) (omega arith));
+      wrote = wrote_then old h z at _ (wrote_wider old h at _ at _ head (omega arith) (omega arith)) (wrote_wider h z _ _ at _ body (omega arith) (omega arith));
       spelled = record {
         first_word = first ∙ s.first_word ∙ ap (λ n. (need n - 8 - n) * 2 ^ 24 + need n) (sym same);
         size_fits = omega arith;

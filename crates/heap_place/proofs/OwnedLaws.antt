@@ -39,11 +39,11 @@ other_test false chunk s = refl
 pub owned_named : (at owner : ℕ) {header : Header} (c : Chunk) {found : Found} → header ≡ header_of c → FindsOwned header at owner found → OwnedAs at owner c found
 owned_named at owner (free size) {found} e f = let g = rw e at f in absurd cc
 owned_named at owner (movable bytes lock own slot) {found} e f =
-    let t = own_test own owner (record { name = record { 0 = slot }; place = placed (at + 8); length = length bytes; lock = lock; owner = owner }) found (rw e at f) in
+    let t = own_test own _ _ _ (rw e at f) in
     subst (λ x. OwnedAs at owner (movable bytes lock own slot) x) t.1
     record { live = record { bytes = bytes; lock = lock; owner = own }; named = λ some. (refl, refl); is_live = tt; place = refl; count = refl; lock_is = refl; owner_is = sym t.0; own = refl; is = eq-eqb own owner t.0 }
 owned_named at owner (fixed bytes own) {found} e f =
-    let t = own_test own owner (record { name = record { 0 = at + 8 }; place = placed (at + 8); length = length bytes; lock = fixed_lock; owner = owner }) found (rw e at f) in
+    let t = own_test own _ _ _ (rw e at f) in
     let named = λ (some : 0 < owner). fixed_has_name at bytes own (rw (← t.0) at some) in
     subst (λ x. OwnedAs at owner (fixed bytes own) x) t.1
     record { live = fixed_live bytes own; named = named; is_live = tt; place = refl; count = refl; lock_is = refl; owner_is = sym t.0; own = refl; is = eq-eqb own owner t.0 }
@@ -51,8 +51,8 @@ owned_named at owner (fixed bytes own) {found} e f =
 -- any other chunk is not the owner's
 not_owned_named : (at owner : ℕ) (c : Chunk) → owned_by (header_of c) (placed (at + 8)) owner ≡ None → is_owned_by owner c ≡ false
 not_owned_named at owner (free size) e = refl
-not_owned_named at owner (movable bytes lock own slot) e = other_test (own == owner) (record { name = record { 0 = slot }; place = placed (at + 8); length = length bytes; lock = lock; owner = owner }) e
-not_owned_named at owner (fixed bytes own) e = other_test (own == owner) (record { name = record { 0 = at + 8 }; place = placed (at + 8); length = length bytes; lock = fixed_lock; owner = owner }) e
+not_owned_named at owner (movable bytes lock own slot) e = other_test _ _ e
+not_owned_named at owner (fixed bytes own) e = other_test _ _ e
 
 -- it is found where the walk has come to
 abbrev pub owned_one : {image : List ℕ} (P : List Chunk → Type 0) {at : ℕ} (owner : ℕ) {header : Header} {found : Found} → HeapAccepted image → 0 < owner → Passed image P at → HasHeader image at header → FindsOwned header at owner found → IsOne image found
@@ -63,7 +63,7 @@ owned_one {image} P {at} owner {found} h some p has is =
     record {
       live = o.live;
       chunk = has.chunk;
-      finds = record { before = p.front; after = parts.0; chunks = parts.1; there = sym back ∙ passed_at image P at p; named = subst (λ n. NamedHere found.name.0 o.live n has.chunk) back (o.named some) };
+      finds = record { before = p.front; after = _; chunks = parts.1; there = sym back ∙ passed_at _ P at p; named = subst (λ n. NamedHere found.name.0 o.live n has.chunk) back (o.named some) };
       behind_header = omega arith;
       name_is = refl;
       count = o.count;
@@ -79,13 +79,13 @@ owned_apart {image} {at} owner {found} h f has is some =
 
 -- nor lent, if no chunk of that owner is
 pub owned_other : (m : Memory) {at : ℕ} (owner : ℕ) {header : Header} {found : Found} → LendsNoneOf m owner → (f : IsOne m.bytes found) → HasHeader m.bytes at header → FindsOwned header at owner found → LendsOther m found.place.0
-owned_other m {at} owner none f has is = owned_not_lent m none f (owned_named at owner has.chunk has.header_is is).own
+owned_other m {at} owner none f has is = owned_not_lent m none f (owned_named at _ _ has.header_is is).own
 
 -- ---- whether one is lent
 
 lent_pushed : (m : Memory) {at : ℕ} (owner : ℕ) {header : Header} → Passed m.bytes (NoneLentAmong m owner) at → (has : HasHeader m.bytes at header) → (IsTrue (is_owned_by owner has.chunk) → LendsOther m (at + 8)) → Passed m.bytes (NoneLentAmong m owner) (at + size_by header)
-lent_pushed m {at} owner {header} p has other = passed_more m.bytes (NoneLentAmong m owner) (NoneLentAmong m owner) at header p has
-    (EveryPlaced-push (λ k c. IsTrue (is_owned_by owner c) → LendsOther m (k + 8)) (area_start m.bytes) p.front has.chunk at (passed_at m.bytes (NoneLentAmong m owner) at p) p.holds other)
+lent_pushed m {at} owner {header} p has other = passed_more _ _ _ at _ p has
+    (EveryPlaced-push (λ k c. IsTrue (is_owned_by owner c) → LendsOther m (k + 8)) _ _ _ at (passed_at _ _ at p) p.holds other)
 
 -- another owner's chunk is passed
 pub lent_not_owned : (m : Memory) {at : ℕ} (owner : ℕ) {header : Header} → Passed m.bytes (NoneLentAmong m owner) at → HasHeader m.bytes at header → owned_by header (placed (at + 8)) owner ≡ None → Passed m.bytes (NoneLentAmong m owner) (at + size_by header)
@@ -95,10 +95,10 @@ lent_not_owned m {at} owner p has e = lent_pushed m owner p has (λ own.
 
 -- and one that isn't lent
 pub lent_elsewhere : (m : Memory) {at : ℕ} (owner : ℕ) {header : Header} (found : Found) → Passed m.bytes (NoneLentAmong m owner) at → HasHeader m.bytes at header → found.place.0 ≡ at + 8 → LendsOther m found.place.0 → Passed m.bytes (NoneLentAmong m owner) (at + size_by header)
-lent_elsewhere m owner found p has place other = lent_pushed m owner p has (λ own. rw place at other)
+lent_elsewhere m owner found p has place other = lent_pushed m _ p has (λ own. rw place at other)
 
 pub owned_place : {image : List ℕ} {at : ℕ} (owner : ℕ) {header : Header} {found : Found} → HasHeader image at header → FindsOwned header at owner found → (found.place.0 ≡ at + 8) × (found.owner ≡ owner)
-owned_place {at} owner has is = let o = owned_named at owner has.chunk has.header_is is in (o.place, o.own)
+owned_place {at} owner has is = let o = owned_named at _ _ has.header_is is in (o.place, o.own)
 
 no_begin : (at : ℕ) (lents : List Lent) → (BeginsAt at lents → ⊥) → EachLent (λ l. l.at ≢ at) lents
 no_begin at [] none = tt
@@ -119,7 +119,7 @@ none_of_owner m owner {at} h p beyond = λ before chunk after e own.
 
 -- where there are none, one chunk more that is not the owner's changes nothing
 none_more : (owner : ℕ) (front : List Chunk) (c : Chunk) → NoneOwned owner front → is_owned_by owner c ≡ false → NoneOwned owner (front ++ c ∷ [])
-none_more owner front c none not_own = counted_one owner front c [] ∙ (let one : cond {A = ℕ} (is_owned_by owner c) 1 0 ≡ 0 = cond-false (is_owned_by owner c) 1 0 not_own in let end : owned owner [] ≡ 0 = refl in let before : owned owner front ≡ 0 = none in omega arith)
+none_more owner front c none not_own = counted_one _ front c [] ∙ (let one : cond {A = ℕ} (is_owned_by owner c) 1 0 ≡ 0 = cond-false (is_owned_by owner c) 1 0 not_own in let end : owned owner [] ≡ 0 = refl in let before : owned owner front ≡ 0 = none in omega arith)
 
 -- ---- the walk
 

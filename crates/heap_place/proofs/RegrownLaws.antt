@@ -24,17 +24,17 @@ run_spot image found own behind e r =
 
 -- a free chunk that is none of them lies outside of it and them
 pub run_outside : {image : List ℕ} {found : Found} {own behind : ℕ} (there : ℕ) → own ≡ need found.length → HeapAccepted image → (r : RunBehind image found behind) → BeginsFree image there → Outside (found.place.0 - 8 + own) behind there → Outside (found.place.0 - 8) (own + behind) there
-run_outside {image} {found} there e h r b out = elim (AnyPlaced-split (IsFreeAt there) start f.before (c ∷ (r.run ++ r.rest)) among) [
+run_outside {image} {found} there e h r b out = elim (AnyPlaced-split _ _ _ _ among) [
   | inl front ↦ let g = free_inside there start f.before sizes.0 front in inl (omega arith)
   | inr later ↦ elim later [
-    | inl here ↦ absurd (live_apart (start + total f.before) there c (λ size is. named_apart found.name.0 (found.place.0 - 8) r.one.live f.named is) (inl here))
-    | inr rest ↦ elim (AnyPlaced-split (IsFreeAt there) (start + total f.before + size_of c) r.run r.rest rest) [
+    | inl here ↦ absurd (live_apart _ _ c (λ size is. named_apart _ _ _ f.named is) (inl here))
+    | inr rest ↦ elim (AnyPlaced-split _ _ _ _ rest) [
       | inl run ↦
           let g = free_inside there (start + total f.before + size_of c) r.run behind_it.0 run in
           let size = found_size image found r.one in
           absurd (elim out [ inl front ↦ omega arith | inr back ↦ omega arith ])
       | inr back ↦
-          let g = free_inside there (start + total f.before + size_of c + total r.run) r.rest behind_it.1 back in
+          let g = free_inside _ _ _ behind_it.1 back in
           let size = found_size image found r.one in
           inr (omega arith)
     ]
@@ -56,22 +56,22 @@ run_outside {image} {found} there e h r b out = elim (AnyPlaced-split (IsFreeAt 
   among = subst (λ cs. AnyPlaced (IsFreeAt there) (area_start image) cs) parts b
 
   sizes : EveryPlaced TakesBytes (area_start image) f.before × EveryPlaced TakesBytes (area_start image + total f.before) (c ∷ (r.run ++ r.rest))
-  sizes = EveryPlaced-split TakesBytes (area_start image) f.before (c ∷ (r.run ++ r.rest)) (SpelledAll-takes image (area_start image) (f.before ++ c ∷ (r.run ++ r.rest)) (length image) (heap_in_parts image (f.before ++ c ∷ (r.run ++ r.rest)) h parts).tiles.area)
+  sizes = EveryPlaced-split _ _ _ _ (SpelledAll-takes _ _ _ _ (heap_in_parts _ _ h parts).tiles.area)
 
   behind_it : EveryPlaced TakesBytes (area_start image + total f.before + size_of c) r.run × EveryPlaced TakesBytes (area_start image + total f.before + size_of c + total r.run) r.rest
-  behind_it = EveryPlaced-split TakesBytes (area_start image + total f.before + size_of c) r.run r.rest sizes.1.1
+  behind_it = EveryPlaced-split _ _ _ _ sizes.1.1
 
 -- every free chunk lies outside of no bytes where a chunk begins
 pub none_outside : {image : List ℕ} {at size : ℕ} (there : ℕ) → size ≡ 0 → HeapAccepted image → IsSpot image at size → BeginsFree image there → Outside at size there
-none_outside {image} there none h r b = elim (AnyPlaced-split (IsFreeAt there) (area_start image) r.before (r.run ++ r.after) (rw r.chunks at b)) [
-  | inl front ↦ let g = free_inside there (area_start image) r.before sizes.0 front in inl (omega arith)
-  | inr back ↦ let g = free_inside there (area_start image + total r.before) (r.run ++ r.after) sizes.1 back in inr (omega arith)
+none_outside {image} there none h r b = elim (AnyPlaced-split _ _ _ _ (rw r.chunks at b)) [
+  | inl front ↦ let g = free_inside _ _ _ sizes.0 front in inl (omega arith)
+  | inr back ↦ let g = free_inside _ _ _ sizes.1 back in inr (omega arith)
 ] where
   sizes : EveryPlaced TakesBytes (area_start image) r.before × EveryPlaced TakesBytes (area_start image + total r.before) (r.run ++ r.after)
-  sizes = EveryPlaced-split TakesBytes (area_start image) r.before (r.run ++ r.after) (SpelledAll-takes image (area_start image) (r.before ++ (r.run ++ r.after)) (length image) (heap_in_parts image (r.before ++ (r.run ++ r.after)) h r.chunks).tiles.area)
+  sizes = EveryPlaced-split _ _ _ _ (SpelledAll-takes _ _ _ _ (heap_in_parts _ _ h r.chunks).tiles.area)
 
 pub none_unlinked : {image heads : List ℕ} {at size : ℕ} → size ≡ 0 → HeapAccepted image → IsSpot image at size → HasLists image heads → AreLists (Outside at size) image heads
-none_unlinked {image} {heads} {at} {size} none h r lists = lists_weaker Any (Outside at size) image heads (λ x b any. none_outside x none h r b) lists
+none_unlinked {image} {heads} {at} {size} none h r lists = lists_weaker Any _ _ _ (λ x b any. none_outside x none h r b) lists
 
 -- ---- what a resize keeps, and what is left
 
@@ -87,7 +87,7 @@ resized_keeps old new found count behind h r w there out b =
     (outside_apart old f.before (c ∷ r.run) r.rest at there (heap_in_parts old (f.before ++ ((c ∷ r.run) ++ r.rest)) h parts) f.there (rw all at out)) b
 
 pub resized_rest : (old new : List ℕ) (found : Found) (count behind left : ℕ) → HeapAccepted old → (r : RunBehind old found behind) → WasResized old new found count behind r → left ≡ need found.length + behind - need count → 0 < left → IsFreeChunk new (found.place.0 - 8 + need count) left
-resized_rest old new found count behind left h r w is some = by_gap left (chunks_of-tiled new (r.one.finds.before ++ ((d ∷ gap (size_of c + behind - need count)) ++ r.rest)) w.heap.tiles ∙ ap (λ n. r.one.finds.before ++ ((d ∷ gap n) ++ r.rest)) same) some where
+resized_rest old new found count behind left h r w is some = by_gap left (chunks_of-tiled new _ w.heap.tiles ∙ ap (λ n. r.one.finds.before ++ ((d ∷ gap n) ++ r.rest)) same) some where
   c : Chunk
   c = r.one.chunk
 
@@ -113,12 +113,12 @@ pub resized_lists : (old mid heads : List ℕ) (found : Found) (own behind : ℕ
 resized_lists old mid heads found own behind e h r keeps lists =
     let at : ℕ = found.place.0 - 8 in
     lists_kept (Outside at (need found.length + behind)) old mid heads keeps
-    (lists_weaker (Outside (at + own) behind) (Outside at (need found.length + behind)) old heads (λ x b out. rw e at (run_outside x e h r b out)) lists)
+    (lists_weaker _ _ old _ (λ x b out. rw e at (run_outside x e h r b out)) lists)
 
 -- and what is left, in front of its own
 pub regrown_lists : (mid new heads after : List ℕ) (at all taken : ℕ) → 8 ≤ taken → taken < all → AreLists (Outside at all) mid heads → Pushes mid new heads after (at + taken) → HasLists new after
 regrown_lists mid new heads after at all taken least less lists p =
-    push_lists (Outside at all) Any lists (λ x b out. (tt, outside_not at all (at + taken) (omega arith) (omega arith) out)) tt p
+    push_lists _ Any lists (λ x b out. (tt, outside_not at all _ (omega arith) (omega arith) out)) tt p
 
 pub regrown_all : (mid heads : List ℕ) (at all : ℕ) → AreLists (Outside at all) mid heads → HasLists mid heads
 regrown_all mid heads at all lists = lists_any (Outside at all) mid heads lists

@@ -27,7 +27,7 @@ module _ {old : List ℕ} {at name : ℕ} {live : LiveChunk} {chunk : Chunk} (h 
   first_word : {mid : List ℕ} (size : ℕ) → mid ≡ overwritten old at (u32_bytes (2 ^ 31 + size)) → WroteWithin old mid at (at + total (chunk ∷ []))
   first_word {mid} size is =
       let fits = least in let inside = standing.inside in
-      wrote_wider old mid at (at + 4) at (at + total (chunk ∷ [])) (wrote_word old mid at (2 ^ 31 + size) is (omega arith)) (omega arith) (omega arith)
+      wrote_wider old mid at _ at _ (wrote_word old mid at _ is (omega arith)) (omega arith) (omega arith)
 
   -- its slot stays one
   slot_stays : {mid : List ℕ} (size : ℕ) → IsSlot old name → mid ≡ overwritten old at (u32_bytes (2 ^ 31 + size)) → TablesLie mid × IsSlot mid name
@@ -35,7 +35,7 @@ module _ {old : List ℕ} {at name : ℕ} {live : LiveChunk} {chunk : Chunk} (h 
 
 -- the word that is written for the free chunk
 first_is : (old : List ℕ) {mid : List ℕ} (at size : ℕ) → mid ≡ overwritten old at (u32_bytes (2 ^ 31 + size)) → at + 4 ≤ length old → size < 2 ^ 24 → u32_at mid at ≡ 2 ^ 31 + size
-first_is old at size is inside small = ap (λ x. u32_at x at) is ∙ u32_at-written (2 ^ 31 + size) at old inside (omega arith)
+first_is old at size is inside small = ap (λ x. u32_at x at) is ∙ u32_at-written _ at old inside (omega arith)
 
 -- the two writes: one among the chunks, and one to the slot
 record Given (old new : List ℕ) (at size name : ℕ) (chunk : Chunk) : Type 0 where
@@ -92,16 +92,16 @@ gave_back_at {old} new {at} size {name} {live} {chunk} h own f takes is header e
     let m = standing h f in
     let fits = least h f in let inside = m.inside in let most = m.most in
     let w = given new size chunk h f takes is header emptied in
-    let r = area_replaces old new f.before (chunk ∷ []) (free size ∷ []) f.after at (heap_at h f).tiles (no_table h f) m.there m.inside w.area (w.spelled, omega arith) in
-    let all = released old new f.before chunk [] f.after at size name live (heap_at h f) r tt f.named (not_directory old at name live chunk own f.named) w.clears w.others in
+    let r = area_replaces old new _ _ _ _ at (heap_at h f).tiles (no_table h f) m.there m.inside w.area (w.spelled, omega arith) in
+    let all = released old new _ _ [] f.after at size name live (heap_at h f) r tt f.named (not_directory old at name live _ own f.named) w.clears w.others in
     let there = m.there in
     let exact = chunks_of-tiled new (f.before ++ free size ∷ f.after) all.tiles in
     let start = same_start old new r.head in (
-      (exchanges_parts old new at (λ c. freed c ∷ []) f.before chunk f.after h (named_live_chunk name at live chunk f.named) f.chunks there).1
+      (exchanges_parts old new at (λ c. freed c ∷ []) _ _ _ h (named_live_chunk name at live _ f.named) f.chunks there).1
           (rw takes at (becomes_heap old new (f.before ++ free size ∷ f.after) r.head all)),
       record { before = f.before; after = f.after; chunks = exact; there = omega arith },
       keeps_replaced old new f.before (chunk ∷ []) (free size ∷ []) f.after at h f.chunks all r,
-      replaced_plain old new f.before (chunk ∷ []) (free size ∷ []) f.after at f.chunks all r (free_plain new at size [] w.word (omega arith) (λ there none. absurd none)),
+      replaced_plain old new _ _ _ _ at f.chunks all r (free_plain new at size [] w.word (omega arith) (λ there none. absurd none)),
       exact,
     )
 
@@ -109,7 +109,7 @@ gave_back_at {old} new {at} size {name} {live} {chunk} h own f takes is header e
 pub chunk_up_to : {image : List ℕ} {at size : ℕ} → HeapAccepted image → IsFreeChunk image at size → FreeUpTo image at (at + size)
 chunk_up_to {image} {at} {size} h f =
     let least = (free_there image at size h f).header_fits in
-    record { before = f.before; run = free size ∷ []; after = f.after; chunks = f.chunks; all_free = tt; from = omega arith; to = omega arith; least = omega arith }
+    record { before = f.before; run = free size ∷ []; after = _; chunks = f.chunks; all_free = tt; from = omega arith; to = omega arith; least = omega arith }
 
 -- ---- of a chunk that was found
 
@@ -168,7 +168,7 @@ pub given_lists : {old mid new heads after : List ℕ} {found : Found} → HeapA
 given_lists {old} {mid} {heads} {found} h f keeps p lists =
     let at : ℕ = found.place.0 - 8 in
     let others = lists_weaker Any (ButAt at) old heads (λ x b any. none_there x h f b) lists in
-    push_lists (ButAt at) Any (lists_kept (ButAt at) old mid heads (λ x apart b. keeps x tt b) others) (λ x b apart. (tt, apart)) tt p
+    push_lists _ Any (lists_kept _ old mid _ (λ x apart b. keeps x tt b) others) (λ x b apart. (tt, apart)) tt p
 
 -- its own slot
 own_slot_is : {old : List ℕ} {found : Found} → HeapAccepted old → (f : IsOne old found) → found.lock ≢ fixed_lock → IsSlot old found.name.0

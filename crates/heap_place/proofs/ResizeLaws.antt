@@ -19,13 +19,13 @@ pub run_middle : {image : List ℕ} {found : Found} {behind : ℕ} → HeapAccep
 run_middle {image} h r =
     let f = r.one.finds in
     let c : Chunk = r.one.chunk in
-    middle_of image f.before (c ∷ r.run) r.rest _ (heap_in_parts image (f.before ++ ((c ∷ r.run) ++ r.rest)) h (f.chunks ∙ ap (λ cs. f.before ++ c ∷ cs) r.parts)) f.there
+    middle_of _ _ _ _ _ (heap_in_parts _ _ h (f.chunks ∙ ap (λ cs. f.before ++ c ∷ cs) r.parts)) f.there
 
 pub run_facts : (image : List ℕ) (found : Found) (behind : ℕ) → HeapAccepted image → RunBehind image found behind → RunFacts image found behind
 run_facts image found behind h r =
     let m = run_middle h r in
     let size = found_size image found r.one in
-    record { low = r.one.behind_header; inside = omega arith; whole = omega arith; most = m.most; body = bytes_inside image found h r.one }
+    record { low = r.one.behind_header; inside = omega arith; whole = omega arith; most = m.most; body = bytes_inside _ _ h r.one }
 
 -- ---- the header
 
@@ -52,7 +52,7 @@ writable_by : {image : List ℕ} {name at : ℕ} (count : ℕ) {live : LiveChunk
 writable_by count (free size) h f whole small = absurd f.named
 writable_by {image} {name} {at} count {live} (movable bytes lock owner slot) h f whole small =
     let s = finds_spelled image name live (movable bytes lock owner slot) at h f in
-    let facts = slot_facts image h.0 slot h.1.tiles (own_slot image name at live bytes lock owner slot h f) in
+    let facts = slot_facts _ h.0 slot h.1.tiles (own_slot _ name at live _ lock _ slot h f) in
     let own : owner < 16 = s.1.owner_fits in
     let len = length-sized_to bytes count in
     (omega arith, s.2, omega arith, s.3, omega arith, omega arith)
@@ -74,7 +74,7 @@ sized_writable image found count behind h r fits =
     let f = r.one in
     let facts = run_facts image found behind h r in
     let e = header_sized count h f in
-    (rw e (writable_by count f.chunk h f.finds (run_middle h r).start_whole (omega arith)), ap size_by e ∙ size_by_sized f.chunk count (named_live_chunk found.name.0 at f.live f.chunk f.finds.named))
+    (rw e (writable_by _ _ h f.finds (run_middle h r).start_whole (omega arith)), ap size_by e ∙ size_by_sized _ _ (named_live_chunk _ at _ _ f.finds.named))
 
 -- ---- the bytes
 
@@ -83,7 +83,7 @@ sized_body : (old : List ℕ) {filled new : List ℕ} (at count : ℕ) {bytes : 
     → SameBetween (at + 8) (at + 8 + count) filled new → length filled ≡ length old → length new ≡ length old → slice_range new (at + 8) (at + 8 + count) ≡ sized_to bytes count
 unfolding overwritten
 sized_body old {filled} {new} at count {bytes} body inside fits is same len_filled len_new =
-    sym (slice-same (at + 8) (at + 8 + count) filled new same (omega arith) (omega arith)) ∙ elim (cases_lt (length bytes) count) [ inl more ↦ longer more | inr less ↦ shorter less ] where
+    sym (slice-same _ _ _ new same (omega arith) (omega arith)) ∙ elim (cases_lt (length bytes) count) [ inl more ↦ longer more | inr less ↦ shorter less ] where
       zeros : List ℕ
       zeros = replicate (count - length bytes) 0
 
@@ -105,7 +105,7 @@ sized_body old {filled} {new} at count {bytes} body inside fits is same len_fill
           let size : length (take count (drop start old)) ≡ count = length-take-le count (drop start old) (let n = length-drop start old in omega arith) in
           let kept : take (length bytes) (take count (drop start old)) ≡ bytes = take-take (length bytes) count (drop start old) (omega arith) ∙ was in
           ap (λ x. take (start + count - start) (drop start x)) is
-          ∙ slice-overwritten-within old start (length bytes) count zeros (omega arith) (omega arith)
+          ∙ slice-overwritten-within old _ _ count zeros (omega arith) (omega arith)
           ∙ ap (λ n. overwritten (take n (drop start old)) (length bytes) zeros) (whole count)
           ∙ ap (λ x. take (length bytes) (take count (drop start old)) ++ zeros ++ x) (drop_all (length bytes + length zeros) (take count (drop start old)) (omega arith))
           ∙ append-nil (take (length bytes) (take count (drop start old)) ++ zeros)
@@ -116,7 +116,7 @@ sized_body old {filled} {new} at count {bytes} body inside fits is same len_fill
           let zeros_are = many in
           let none : count - length bytes ≡ 0 = omega arith in
           let w = wrote_part old filled (start + length bytes) zeros is (omega arith) in
-          sym (slice-same start _ old filled (wrote_apart old filled (start + length bytes) (start + length bytes + length zeros) start (start + count) w (inl (omega arith))) (omega arith) (omega arith))
+          sym (slice-same _ _ old _ (wrote_apart old _ _ _ _ _ w (inl (omega arith))) (omega arith) (omega arith))
           ∙ ap (λ n. take n (drop start old)) (whole count)
           ∙ sym (take-take count (length bytes) (drop start old) less)
           ∙ ap (take count) was
@@ -137,24 +137,24 @@ sized_spelled {new} {at} count (movable bytes lock owner slot) live none body ha
     let len = length-sized_to bytes count in
     let m = header_movable (length sized) lock owner slot has.chunk has.header_is in
     let t = subst (λ x. Spelled new at x) m.1.0 has.spelled in
-    let same_bytes : m.0 ≡ sized = sym (movable_body new at m.0 lock owner t.0 t.1 t.2) ∙ ap (λ k. slice_range new (at + 8) (at + 8 + k)) (m.1.1 ∙ len) ∙ body in
+    let same_bytes : m.0 ≡ sized = sym (movable_body new at m.0 lock _ t.0 t.1 t.2) ∙ ap (λ k. slice_range new (at + 8) (at + 8 + k)) (m.1.1 ∙ len) ∙ body in
     subst (λ x. Spelled new at (movable x lock owner slot)) same_bytes t
 sized_spelled {new} {at} count (fixed bytes owner) live none body has =
     let sized : List ℕ = sized_to bytes count in
     let len = length-sized_to bytes count in
     let m = header_fixed (length sized) owner has.chunk has.header_is in
     let t = subst (λ x. Spelled new at x) m.1.0 has.spelled in
-    let same_bytes : m.0 ≡ sized = sym (callers_body new at m.0 _ owner 0 t none.0) ∙ ap (λ k. slice_range new (at + 8) (at + 8 + k)) (m.1.1 ∙ len) ∙ body in
+    let same_bytes : m.0 ≡ sized = sym (callers_body new at m.0 _ _ 0 t none.0) ∙ ap (λ k. slice_range new (at + 8) (at + 8 + k)) (m.1.1 ∙ len) ∙ body in
     subst (λ x. Spelled new at (fixed x owner)) same_bytes t
 
 -- where it stands in the image
 pub found_body : {image : List ℕ} {found : Found} → HeapAccepted image → (f : IsOne image found) → (slice_range image (found.place.0 - 8 + 8) (found.place.0 - 8 + 8 + length (body_of f.chunk)) ≡ body_of f.chunk) × (length (body_of f.chunk) ≡ found.length)
-found_body {image} {found} h f = let b = by_chunk f.live f.chunk (finds_spelled image _ f.live f.chunk _ h f.finds) f.finds.named in (b.0, b.1 refl) where
+found_body {image} {found} h f = let b = by_chunk _ _ (finds_spelled _ _ _ _ _ h f.finds) f.finds.named in (b.0, b.1 refl) where
   by_chunk : (live : LiveChunk) (c : Chunk) → Spelled image (found.place.0 - 8) c → NamedHere found.name.0 live (found.place.0 - 8) c
       → (slice_range image (found.place.0 - 8 + 8) (found.place.0 - 8 + 8 + length (body_of c)) ≡ body_of c) × (live ≡ f.live → length (body_of c) ≡ found.length)
   by_chunk live (free size) s named = absurd named
   by_chunk live (movable bytes lock owner slot) s named = (movable_body image _ bytes lock owner s.0 s.1 s.2, λ e. same_length (named.1 ∙ e) ∙ sym f.count)
-  by_chunk live (fixed bytes owner) s named = (callers_body image _ bytes _ owner 0 s (fixed_owned (found.place.0 - 8) bytes owner named), λ e. same_length (fixed_live_is (found.place.0 - 8) bytes owner named ∙ e) ∙ sym f.count)
+  by_chunk live _ s named = (callers_body _ _ _ _ _ 0 s (fixed_owned _ _ _ named), λ e. same_length (fixed_live_is _ _ _ named ∙ e) ∙ sym f.count)
 
 -- ---- the chunk with another length
 
@@ -258,4 +258,4 @@ shrinks old new found count h one x =
     let live = named_live_chunk found.name.0 at one.live c f.named in
     let taken = size_of-with_length c count live in
     let left : size_of c + 0 - need count ≡ size_of c - size_of (with_length count c) = omega arith in
-    (exchanges_parts old new at (shrunk count) f.before c f.after h live f.chunks f.there).1 (rw left at (x (none_behind old found one)))
+    (exchanges_parts old new at _ _ c _ h live f.chunks f.there).1 (rw left at (x (none_behind old _ one)))

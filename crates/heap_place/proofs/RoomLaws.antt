@@ -10,7 +10,7 @@ below_prefix size begun (free n) (d ∷ run) after f b = let ih = below_prefix s
 below_prefix size begun c run after f b = absurd f
 
 below_any : (size begun : ℕ) (before : List Chunk) (c : Chunk) (run after : List Chunk) → AllFree (c ∷ run) → StaysBelow size begun (before ++ ((c ∷ run) ++ after)) → total (c ∷ run) < size
-below_any size begun [] c run after f b = let h = below_prefix size begun c run after f b in omega arith
+below_any size begun [] c run after f b = let h = below_prefix size _ c run _ f b in omega arith
 below_any size begun (free n ∷ before) c run after f b = below_any size (begun + n) before c run after f b.1
 below_any size begun (d ∷ before) c run after f b = below_any size 0 before c run after f b
 
@@ -53,7 +53,7 @@ pub record EndsInRun (image : List ℕ) (at run_size : ℕ) (cs : List Chunk) : 
 -- after a live chunk
 pub live_keeps : (cs : List Chunk) (c : Chunk) → IsNotFree c → KeepsApart (cs ++ c ∷ [])
 live_keeps cs c live others =
-    ap merged (append_assoc cs (c ∷ []) others) ∙ merged-live cs c others live ∙ sym (append_assoc (merged cs) (c ∷ []) (merged others)) ∙ ap (λ xs. xs ++ merged others) (sym (merged-live cs c [] live))
+    ap merged (append_assoc cs (c ∷ []) others) ∙ merged-live cs c _ live ∙ sym (append_assoc (merged cs) (c ∷ []) (merged others)) ∙ ap (λ xs. xs ++ merged others) (sym (merged-live cs c [] live))
 
 pub free_push : (run : List Chunk) (n : ℕ) → AllFree run → AllFree (run ++ free n ∷ [])
 free_push [] n f = tt
@@ -76,7 +76,7 @@ search_start image size some inside = record { front = []; run = []; spelled = r
 
 -- a chunk stands where the search has come to
 pub search_there : {image : List ℕ} {size at run_size : ℕ} → HeapAccepted image → Searched image size at run_size → at < length image → HasChunk image at
-search_there {image} {at} h s inside = let c = chunk_there image h.0 (s.front ++ s.run) at h.1.tiles s.spelled inside in record { chunk = c.0; spelled = c.1 }
+search_there {image} {at} h s inside = let c = chunk_there _ h.0 _ at h.1.tiles s.spelled inside in record { chunk = c.0; spelled = c.1 }
 
 pub search_fits : {image : List ℕ} {size at run_size : ℕ} → Searched image size at run_size → run_size ≤ at
 search_fits {image} {at} s =
@@ -104,7 +104,7 @@ pushed {image} {at} {h} s found =
 pushed_run : {image : List ℕ} {size at run_size : ℕ} {h : Header} → (s : Searched image size at run_size) → (found : HasHeader image at h) → EndsInRun image (at + size_by h) (run_by run_size h) ((s.front ++ s.run) ++ found.chunk ∷ [])
 pushed_run {image} {at} {run_size} {h} s found =
     subst (λ g. EndsInRun image (at + size_by h) (run_by run_size g) ((s.front ++ s.run) ++ found.chunk ∷ [])) (sym found.header_is)
-    (run_push image at run_size (s.front ++ s.run) found.chunk (at + size_by h) record { front = s.front; run = s.run; parts = refl; all_free = s.all_free; sums = s.sums; apart = s.apart })
+    (run_push _ at _ _ _ _ record { front = s.front; run = s.run; parts = refl; all_free = s.all_free; sums = s.sums; apart = s.apart })
 
 pub search_more : {image : List ℕ} {size at run_size : ℕ} {h : Header} → Searched image size at run_size → HasHeader image at h → run_by run_size h < size → Searched image size (at + size_by h) (run_by run_size h)
 search_more {image} {size} {at} {run_size} {h} s found small =
@@ -114,7 +114,7 @@ search_more {image} {size} {at} {run_size} {h} s found small =
     let z = search_size s found in
     let low = subst (λ g. run_by run_size g < size) found.header_is small in
     let last = rw (← s.ends) at (below_one size run_size c low) in
-    let ends : run_behind 0 (cs ++ c ∷ []) ≡ run_by run_size h = behind_push 0 cs c ∙ ap (λ n. run_behind n (c ∷ [])) s.ends ∙ behind_one run_size c ∙ sym (ap (run_by run_size) found.header_is) in
+    let ends : run_behind 0 (cs ++ c ∷ []) ≡ run_by run_size h = behind_push 0 cs c ∙ ap (λ n. run_behind n (c ∷ [])) s.ends ∙ behind_one _ c ∙ sym (ap (run_by run_size) found.header_is) in
     record {
       front = r.front;
       run = r.run;

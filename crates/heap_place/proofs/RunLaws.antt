@@ -26,7 +26,7 @@ reads image at (c ∷ cs) s = subst (λ n. Reads image at (c ∷ cs) n) (sym (ap
 pub from_bound : {image : List ℕ} {at : ℕ} → HeapAccepted image → IsBound image at → ChunksFrom image at
 from_bound {image} h b = record {
   rest = b.after;
-  spelled = rw (← b.ends.there) at (SpelledAll-split image (area_start image) b.before b.after (length image) (heap_in_parts image (b.before ++ b.after) h b.ends.chunks).tiles.area).1;
+  spelled = rw (← b.ends.there) at (SpelledAll-split image (area_start image) b.before _ _ (heap_in_parts _ _ h b.ends.chunks).tiles.area).1;
 }
 
 pub from_running : {image : List ℕ} {at end size : ℕ} → IsBound image at → RunsUpTo image at end size → 0 < size → ChunksFrom image (end + size)
@@ -52,7 +52,7 @@ pub free_read : {image : List ℕ} {at : ℕ} {header : Header} → HasHeader im
 free_read {image} {at} f = ap free_by f.header_is ∙ sym (free_of f.chunk) ∙ sym (ap size_if_free (chunk_at-spelled image at f.chunk f.spelled))
 
 pub none_at_the_end : (image : List ℕ) (at : ℕ) → length image ≤ at → 0 ≡ free_size_at image at
-none_at_the_end image at past = sym (ap size_if_free (chunk_at-none image at (λ c spelled. let size = Spelled-size image at c spelled in omega arith)))
+none_at_the_end image at past = sym (ap size_if_free (chunk_at-none _ at (λ c spelled. let size = Spelled-size _ at c spelled in omega arith)))
 
 pub run_start : {image : List ℕ} (at : ℕ) {size : ℕ} → HeapAccepted image → size ≡ free_size_at image at → RunsUpTo image at at size
 run_start {image} at h e = record {
@@ -96,28 +96,28 @@ ends_behind {image} {found} e f =
     record { chunks = f.finds.chunks ∙ sym (append_assoc f.finds.before (f.chunk ∷ []) f.finds.after); there = omega arith }
 
 pub bound_behind : (image : List ℕ) (found : Found) (own : ℕ) → own ≡ need found.length → IsOne image found → IsBound image (found.place.0 - 8 + own)
-bound_behind image found own e f = record { before = f.finds.before ++ f.chunk ∷ []; after = f.finds.after; ends = ends_behind e f }
+bound_behind image found own e f = record { before = f.finds.before ++ f.chunk ∷ []; after = _; ends = ends_behind e f }
 
 pub free_behind_found : (image : List ℕ) (found : Found) (own behind : ℕ) → own ≡ need found.length → (f : IsOne image found) → BeginsWithFree image (found.place.0 - 8 + own) behind → behind ≡ free_front f.finds.after
 free_behind_found image found own behind e f b = b (f.finds.before ++ f.chunk ∷ []) f.finds.after (ends_behind e f)
 
 -- all of the free chunks with which those after it begin
 pub all_behind : (image : List ℕ) (found : Found) (behind : ℕ) → (f : IsOne image found) → behind ≡ free_front f.finds.after → RunBehind image found behind
-all_behind image found behind f e = let p = front_parts f.finds.after in record { one = f; run = p.run; rest = behind_front f.finds.after; parts = p.parts; all_free = p.all_free; sums = e ∙ sym p.sums }
+all_behind image found behind f e = let p = front_parts _ in record { one = f; run = p.run; rest = behind_front f.finds.after; parts = p.parts; all_free = p.all_free; sums = e ∙ sym p.sums }
 
 pub grows : (old new : List ℕ) (found : Found) (count behind : ℕ) → HeapAccepted old → (f : IsOne old found) → behind ≡ free_front f.finds.after → Resizes old new found count behind → GrowsInPlace old new (found.place.0 - 8) count
 unfolding all_behind
 grows old new found count behind h one e x =
     let f = one.finds in
     let c : Chunk = one.chunk in
-    grows_parts old new _ count f.before c f.after h (named_live_chunk found.name.0 (found.place.0 - 8) one.live c f.named) f.chunks f.there
+    grows_parts old new _ _ _ c _ h (named_live_chunk _ _ _ c f.named) f.chunks f.there
     (rw e at (x (all_behind old found behind one e)))
 
 -- ---- whether they suffice
 
 pub in_place_facts : (image : List ℕ) (found : Found) (own behind : ℕ) → HeapAccepted image → IsOne image found → own ≡ need found.length → BeginsWithFree image (found.place.0 - 8 + own) behind → (found.place.0 - 8 + (own + behind) ≤ length image) × (length image ≤ 16777208)
 in_place_facts image found own behind h f e b =
-    let facts = run_facts image found behind h (all_behind image found behind f (free_behind_found image found own behind e f b)) in
+    let facts = run_facts _ _ _ h (all_behind _ _ _ f (free_behind_found _ _ own _ e f b)) in
     (omega arith, facts.most)
 
 pub in_place_yes : (image : List ℕ) (found : Found) (count own behind : ℕ) → own ≡ need found.length → BeginsWithFree image (found.place.0 - 8 + own) behind → need count ≤ own + behind → TellsWhetherInPlace image found (need count) true
@@ -135,7 +135,7 @@ in_place_no image found count own behind e b short f =
 -- the header there
 pub bound_misses : {m : Memory} {at : ℕ} → HoldsHeap m → IsBound m.bytes at → at < length m.bytes → Misses m.lents at 8
 bound_misses {m} {at} h b inside =
-    walked_misses m b.before at h.accepted h.lent (rw (← b.ends.there) at (SpelledAll-split m.bytes (area_start m.bytes) b.before b.after (length m.bytes) (heap_in_parts m.bytes (b.before ++ b.after) h.accepted b.ends.chunks).tiles.area).0) inside
+    walked_misses m _ at h.accepted h.lent (rw (← b.ends.there) at (SpelledAll-split m.bytes (area_start m.bytes) b.before _ _ (heap_in_parts _ _ h.accepted b.ends.chunks).tiles.area).0) inside
 
 -- and after a free chunk that stands there
 pub bound_on : {image : List ℕ} {at size : ℕ} → HeapAccepted image → IsBound image at → size ≡ free_size_at image at → 0 < size → IsBound image (at + size)
@@ -150,6 +150,6 @@ bound_on {image} {at} {size} h b is some = by_rest b.after b.ends.chunks (rw (�
 
   by_rest : (cs : List Chunk) → chunks_of image ≡ b.before ++ cs → SpelledAll image at cs (length image) → IsBound image (at + size)
   by_rest [] e s =
-      let none : size ≡ 0 = is ∙ ap size_if_free (chunk_at-none image at (λ c t. let inside = (Spelled-size image at c t).1 in let least = (Spelled-size image at c t).0 in omega arith)) in
+      let none : size ≡ 0 = is ∙ ap size_if_free (chunk_at-none _ at (λ c t. let inside = (Spelled-size _ at c t).1 in let least = (Spelled-size _ at c t).0 in omega arith)) in
       absurd (omega arith)
   by_rest (c ∷ cs) e s = on c cs e (chunk_at-spelled image at c s.0)

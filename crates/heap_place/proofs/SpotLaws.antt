@@ -2,7 +2,7 @@
 use Rattle.heap_place.proofs.Words.{◌≡◌, ℕ, ◌+◌, ◌-◌, List, [], ◌∷◌, ◌++◌, sym, ap, subst, ◌∙◌, arith, Chunk, free, need, size_of, total, Memory, chunks_of, Becomes, gap, IsSpot, Claims, frame_start, frame_then, IsFreeChunk, CutsRoom, Fills}
 
 pub chunk_spot : {image : List ℕ} {at size : ℕ} → IsFreeChunk image at size → IsSpot image at size
-chunk_spot {size} f = record { before = f.before; run = free size ∷ []; after = f.after; chunks = f.chunks; all_free = tt; there = f.there; sums = (let e : size ≡ size + 0 = omega arith in e) }
+chunk_spot {size} f = record { before = f.before; run = free size ∷ []; after = _; chunks = f.chunks; all_free = tt; there = f.there; sums = (let e : size ≡ size + 0 = omega arith in e) }
 
 -- what was cut off
 pub cut_chunk : (old new : List ℕ) (at room size : ℕ) → Becomes old new (chunks_of old) → (r : IsSpot old at room) → CutsRoom old new at room size → IsFreeChunk new at size

@@ -12,7 +12,7 @@ pub passed_there : (image : List ℕ) (P : List Chunk → Type 0) (at : ℕ) →
 passed_there image P at h p inside = chunk_there image h.0 p.front at h.1.tiles p.spelled inside
 
 pub passed_chunk : {image : List ℕ} {P : List Chunk → Type 0} {at : ℕ} → HeapAccepted image → Passed image P at → at < length image → HasChunk image at
-passed_chunk {image} {P} {at} h p inside = let c = passed_there image P at h p inside in record { chunk = c.0; spelled = c.1 }
+passed_chunk {image} {P} {at} h p inside = let c = passed_there _ P at h p inside in record { chunk = c.0; spelled = c.1 }
 
 pub passed_misses : {m : Memory} {P : List Chunk → Type 0} {at : ℕ} → HoldsHeap m → Passed m.bytes P at → at < length m.bytes → Misses m.lents at 8
 passed_misses {m} {at} h p inside = walked_misses m p.front at h.accepted h.lent p.spelled inside

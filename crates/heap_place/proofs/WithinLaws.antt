@@ -42,7 +42,7 @@ named_apart name at live n e = subst (λ d. NamedHere name live at d) e n
 pub keeps_found : {old new : List ℕ} {found : Found} → HeapAccepted old → HeapAccepted new → (f : IsOne old found) → WroteWithin old new (found.place.0 - 8 + 4) (found.place.0 - 8 + need found.length) → KeepsFree Any old new
 keeps_found {old} {new} {found} h g f w there any b =
     let at : ℕ = found.place.0 - 8 in
-    keeps_within f.finds.before f.chunk _ h g f.finds.chunks f.finds.there (no_slots found.name.0 f.live at f.chunk f.finds.named) (rw (found_size old found f) at w) there
+    keeps_within _ _ _ h g f.finds.chunks f.finds.there (no_slots _ _ at _ f.finds.named) (rw (found_size old _ f) at w) there
     (live_apart at there f.chunk (λ size e. named_apart found.name.0 at f.live f.finds.named e)) b
 
 -- its second word
@@ -50,7 +50,7 @@ pub keeps_second : {old new : List ℕ} {found : Found} (word : ℕ) → HeapAcc
 keeps_second {old} {new} {found} word h g f is =
     let at : ℕ = found.place.0 - 8 in
     let inside = bytes_inside old found h f in
-    keeps_found h g f (wrote_wider old new (at + 4) (at + 4 + 4) (at + 4) (at + need found.length) (wrote_word old new (at + 4) word is (omega arith)) (omega arith) (omega arith))
+    keeps_found h g f (wrote_wider old new _ _ _ _ (wrote_word old new _ word is (omega arith)) (omega arith) (omega arith))
 
 -- a part of its body
 pub keeps_body : (old new : List ℕ) (found : Found) (at : ℕ) (part : List ℕ) → HeapAccepted old → IsOne old found → at + length part ≤ found.length → new ≡ overwritten old (found.place.0 + at) part → KeepsFree Any old new
@@ -58,12 +58,12 @@ keeps_body old new found at part h f within is =
     let inside = bytes_inside old found h f in
     let there : ℕ = found.place.0 - 8 in
     keeps_found h (written_there old new found at part h f within is).0.frame.accepted f
-    (wrote_wider old new _ (found.place.0 + at + length part) (there + 4) (there + need found.length) (wrote_part old new (found.place.0 + at) part is (omega arith)) (omega arith) (omega arith))
+    (wrote_wider old new _ _ _ _ (wrote_part old new _ part is (omega arith)) (omega arith) (omega arith))
 
 -- so the lists stay, where the region's value was the space's
 pub body_lists : (old region : Memory) (new heads : List ℕ) (found : Found) (at : ℕ) (part : List ℕ) → region ≡ old → HeapAccepted old.bytes → IsOne old.bytes found → at + length part ≤ found.length → new ≡ overwritten region.bytes (found.place.0 + at) part → HasLists region.bytes heads → HasLists new heads
 body_lists old region new heads found at part same h f within is lists =
-    lists_kept Any _ new heads (keeps_body _ new found at part h f within (is ∙ ap (λ (m : Memory). overwritten m.bytes (found.place.0 + at) part) same)) (rw same at lists)
+    lists_kept Any _ new _ (keeps_body _ new _ at part h f within (is ∙ ap (λ (m : Memory). overwritten m.bytes (found.place.0 + at) part) same)) (rw same at lists)
 
 -- ---- the directory word
 
@@ -71,7 +71,7 @@ pub keeps_directory : {old new : List ℕ} {word : ℕ} → HeapAccepted old →
 keeps_directory {old} {new} {word} h is names there any b =
     let heap = read_heap old h in
     let w = wrote_word old new 12 word is (omega arith) in
-    let f = free_inside there (area_start old) (chunks_of old) (SpelledAll-takes old (area_start old) (chunks_of old) (length old) heap.tiles.area) b in
+    let f = free_inside _ _ _ (SpelledAll-takes old _ _ _ heap.tiles.area) b in
     let all = SpelledAll-end old (area_start old) (chunks_of old) (length old) heap.tiles.area in
     let start = named_start old new word names in
     record {

@@ -6,7 +6,7 @@ use Rattle.heap_place.proofs.LentLaws.{one_within, reowned_holds}
 use Rattle.heap_place.proofs.alter.reown_at.Goals as goal
 
 pub put_owner-requires-clause-inside : goal.put_owner-requires-clause-inside
-put_owner-requires-clause-inside c = one_within c.args.region.now _ c.requires.heap.accepted c.requires.heap.lent c.requires.found
+put_owner-requires-clause-inside c = one_within _ _ c.requires.heap.accepted c.requires.heap.lent c.requires.found
 
 pub returns : goal.returns
 returns c =

@@ -11,7 +11,7 @@ write-requires c =
     record { inside = f.0; misses = (words_within c.requires.heap c.requires.free).misses; small = omega arith; writable = (omega arith, omega arith, omega arith, inl refl, omega arith, omega arith) }
 
 pub fill-requires : goal.fill-requires
-fill-requires c = body_still c.args.count c.requires.heap c.requires.free (same_lents c.write.ensures.after) c.write.ensures.len
+fill-requires c = body_still _ c.requires.heap c.requires.free (same_lents c.write.ensures.after) c.write.ensures.len
 
 pub set-requires : goal.set-requires
 set-requires c =

@@ -23,7 +23,7 @@ pub returns-then-size-eq0-clause-some : goal.returns-then-size-eq0-clause-some
 returns-then-size-eq0-clause-some c = let b = header_bound c.requires.heap.accepted c.requires.bound c.at_with_size-taken.ensures.header in omega arith
 
 pub returns-then-size-eq0-clause-lists : goal.returns-then-size-eq0-clause-lists
-returns-then-size-eq0-clause-lists c = passed_lists c.args.at c.at_with_size-taken.result.1 c.requires.lists
+returns-then-size-eq0-clause-lists c = passed_lists _ _ c.requires.lists
 
 pub cut-requires : goal.cut-requires
 cut-requires c =
@@ -44,8 +44,8 @@ returns c =
       bound = chunk_bound chunk;
       inside = (chunk_inside p.links.frame.accepted chunk).0;
       some = omega arith;
-      lists = gathered_lists c.free_run-size.result (spot_least c.requires.heap.accepted spot (omega arith)).0 c.requires.lists k.keeps p;
-      plain = plain_then c.args.region.now.bytes c.cut.new.region.bytes c.push.new.region.bytes k.plain (links_plain _ _ _ _ p.links);
+      lists = gathered_lists _ (spot_least c.requires.heap.accepted spot (omega arith)).0 c.requires.lists k.keeps p;
+      plain = plain_then _ _ _ k.plain (links_plain _ _ _ _ p.links);
       rest = search rules;
       heap = c.push.ensures.heap;
     }

@@ -25,9 +25,9 @@ returns-then-size-room c =
     let room = c.args.room in let size = c.args.size in
     record {
       same = becomes_links (alike_becomes u.same k.same) p.links;
-      cut = cut_links c.args.region.now.bytes room.at room.size size (alike_cuts c.cut.new.region.bytes room.at room.size size u.same k.cut) p.links;
+      cut = cut_links _ _ _ size (alike_cuts _ _ _ size u.same k.cut) p.links;
       lists = taken_rest room.size size c.requires.least c.if-size-room.true u.lists k.keeps p;
-      plain = plain_then c.args.region.now.bytes c.unlink.new.region.bytes c.push.new.region.bytes u.same.plain (plain_then c.unlink.new.region.bytes c.cut.new.region.bytes c.push.new.region.bytes k.plain (links_plain _ _ _ _ p.links));
+      plain = plain_then _ _ _ u.same.plain (plain_then _ _ _ k.plain (links_plain _ _ _ _ p.links));
       rest = search rules;
       heap = c.push.ensures.heap;
     }
@@ -37,9 +37,9 @@ returns-else-size-room c =
     let u = c.unlink.ensures in let k = c.cut.ensures in
     record {
       same = alike_becomes u.same k.same;
-      cut = alike_cuts c.cut.new.region.bytes c.args.room.at c.args.room.size c.args.size u.same k.cut;
+      cut = alike_cuts _ _ _ _ u.same k.cut;
       lists = taken_all c.args.room.size (omega arith) u.lists k.keeps;
-      plain = plain_then c.args.region.now.bytes c.unlink.new.region.bytes c.cut.new.region.bytes u.same.plain k.plain;
+      plain = plain_then _ _ _ u.same.plain k.plain;
       rest = search rules;
       heap = k.heap;
     }

@@ -8,4 +8,4 @@ neither place None h slots fixed = nothing_at place h slots fixed
 neither place (Some found) h slots fixed = tt
 
 pub returns-in-None-clause-none : goal.returns-in-None-clause-none
-returns-in-None-clause-none c = neither c.args.place.0 c.find_fixed.result c.requires.heap.accepted c.in-None.ensures.none c.find_fixed.ensures.none
+returns-in-None-clause-none c = neither _ _ c.requires.heap.accepted c.in-None.ensures.none c.find_fixed.ensures.none

@@ -14,4 +14,4 @@ live_fields-fields-requires c =
     record { live = slot_live heap.accepted c.requires.holds; small = omega arith; misses = (found_within c.args.region.now _ i.live _ _ heap.accepted heap.lent i.finds).misses }
 
 pub returns : goal.returns
-returns c = slot_fields c.args.slot c.live_fields-fields.result c.requires.heap.accepted c.requires.holds c.live_fields-fields.ensures
+returns c = slot_fields _ _ c.requires.heap.accepted c.requires.holds c.live_fields-fields.ensures

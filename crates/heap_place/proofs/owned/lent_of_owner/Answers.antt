@@ -14,15 +14,15 @@ at_with_size-header-requires c =
 
 pub lends_at-requires : goal.lends_at-requires
 lends_at-requires c =
-    let one = owned_one (NoneLentAmong c.args.region.now c.args.owner) c.args.owner c.requires.heap.accepted c.requires.some_owner c.loop-at.invariant c.at_with_size-header.ensures.header (sym c.if_owned.ensures ∙ c.in-Some.is) in
+    let one = owned_one _ _ c.requires.heap.accepted c.requires.some_owner c.loop-at.invariant c.at_with_size-header.ensures.header (sym c.if_owned.ensures ∙ c.in-Some.is) in
     let inside = bytes_inside _ _ c.requires.heap.accepted one in
     ((found_markable _ _ c.requires.heap.accepted one).0, omega arith)
 
 pub returns-then-lends_at-clause-found : goal.returns-then-lends_at-clause-found
-returns-then-lends_at-clause-found c = owned_one (NoneLentAmong c.args.region.now c.args.owner) c.args.owner c.requires.heap.accepted c.requires.some_owner c.loop-at.invariant c.at_with_size-header.ensures.header (sym c.if_owned.ensures ∙ c.in-Some.is)
+returns-then-lends_at-clause-found c = owned_one _ _ c.requires.heap.accepted c.requires.some_owner c.loop-at.invariant c.at_with_size-header.ensures.header (sym c.if_owned.ensures ∙ c.in-Some.is)
 
 pub returns-then-lends_at-clause-owns : goal.returns-then-lends_at-clause-owns
-returns-then-lends_at-clause-owns c = (owned_place c.args.owner c.at_with_size-header.ensures.header (sym c.if_owned.ensures ∙ c.in-Some.is)).1
+returns-then-lends_at-clause-owns c = (owned_place _ c.at_with_size-header.ensures.header (sym c.if_owned.ensures ∙ c.in-Some.is)).1
 
 pub loop-at-preserved : goal.loop-at-preserved
 loop-at-preserved c =

@@ -26,7 +26,7 @@ overflow_add-at-in-Some c =
     let f = c.loop-at.invariant.0 in let e = c.release-at.ensures in
     let header = c.at_with_size-header.ensures.header in
     let is = sym c.if_owned.ensures ∙ c.in-Some.is in
-    let one = owned_one (NoneOwned c.args.owner) c.args.owner f.frame.accepted c.requires.some_owner f.passed header is in
+    let one = owned_one _ _ f.frame.accepted c.requires.some_owner f.passed header is in
     let more = freeing_more c.release-at.result f header is e.gone (e.exact one) e.plain in
     omega arith
 
@@ -35,7 +35,7 @@ loop-at-smaller-in-Some c =
     let f = c.loop-at.invariant.0 in let e = c.release-at.ensures in
     let header = c.at_with_size-header.ensures.header in
     let is = sym c.if_owned.ensures ∙ c.in-Some.is in
-    let one = owned_one (NoneOwned c.args.owner) c.args.owner f.frame.accepted c.requires.some_owner f.passed header is in
+    let one = owned_one _ _ f.frame.accepted c.requires.some_owner f.passed header is in
     let more = freeing_more c.release-at.result f header is e.gone (e.exact one) e.plain in
     omega arith
 

@@ -4,7 +4,7 @@ use Rattle.heap_place.proofs.RunLaws.{from_bound, from_running, run_start, run_i
 use Rattle.heap_place.proofs.release.free_run.Goals as goal
 
 pub loop-size-init : goal.loop-size-init
-loop-size-init c = (run_start c.args.at c.requires.heap.accepted c.free_size-size.ensures, c.requires.bound)
+loop-size-init c = (run_start _ c.requires.heap.accepted c.free_size-size.ensures, c.requires.bound)
 
 pub overflow_add-end : goal.overflow_add-end
 overflow_add-end c = let r = run_inside c.requires.bound c.loop-size.invariant.0 in omega arith

@@ -12,7 +12,7 @@ returns c =
       gone = becomes_links e.gone p.links;
       free = chunk_up_to p.links.frame.accepted (links_chunk p.links e.chunk);
       lists = given_lists c.requires.heap.accepted c.requires.found e.keeps p c.requires.lists;
-      plain = plain_then c.args.region.now.bytes c.release-size.new.region.bytes c.push.new.region.bytes e.plain (links_plain _ _ _ _ p.links);
+      plain = plain_then _ _ _ e.plain (links_plain _ _ _ _ p.links);
       rest = search rules;
       heap = c.push.ensures.heap;
     }

@@ -6,7 +6,7 @@ use Rattle.heap_place.proofs.room.find_room.Goals as goal
 pub loop-at-init : goal.loop-at-init
 loop-at-init c =
     let image = c.args.region.now.bytes in
-    subst (λ n. Searched image c.args.size n 0) (sym c.area_start-at.ensures) (search_start image c.args.size c.requires.some_size (omega arith))
+    subst (λ n. Searched image c.args.size n 0) (sym c.area_start-at.ensures) (search_start _ _ c.requires.some_size (omega arith))
 
 pub at_with_size-header-requires : goal.at_with_size-header-requires
 at_with_size-header-requires c =

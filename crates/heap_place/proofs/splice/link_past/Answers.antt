@@ -7,7 +7,7 @@ use Rattle.heap_place.proofs.LentLaws.{second_within, linked_holds}
 use Rattle.heap_place.proofs.splice.link_past.Goals as goal
 
 pub get_u32-next-requires : goal.get_u32-next-requires
-get_u32-next-requires c = second_within c.requires.heap (begun_chunk c.args.at c.requires.heap.accepted c.requires.free.begins)
+get_u32-next-requires c = second_within c.requires.heap (begun_chunk _ c.requires.heap.accepted c.requires.free.begins)
 
 pub put_u32-requires : goal.put_u32-requires
 put_u32-requires c =

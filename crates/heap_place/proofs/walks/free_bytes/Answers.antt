@@ -22,4 +22,4 @@ loop-at-preserved c =
     (free_passed c.loop-at.count c.loop-at.invariant c.at_with_size-header.ensures.header))
 
 pub returns : goal.returns
-returns c = sym (passed_all _ (HaveFreeBytes c.loop-at.count) _ c.requires.heap.accepted c.loop-at.invariant (omega arith))
+returns c = sym (passed_all _ _ _ c.requires.heap.accepted c.loop-at.invariant (omega arith))
