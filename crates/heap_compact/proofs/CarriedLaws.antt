@@ -24,7 +24,7 @@ SpelledAll-carried {xs} {ys} at {by} (c ∷ cs) {end} carry inside s =
     let e : end ≡ at + size_of c + total cs = SpelledAll-end xs (at + size_of c) cs end s.1 in
     let size = carried_size by c in
     let next : at + size_of c + by ≡ at + by + size_of (carried by c) = omega arith in (
-      Spelled-carried c (Carries-within _ _ _ at (at + size_of c) _ _ carry (omega arith) (omega arith)) (omega arith) s.0,
+      Spelled-carried c (Carries-within _ _ _ at _ _ _ carry (omega arith) (omega arith)) (omega arith) s.0,
       subst (λ (n : ℕ). SpelledAll ys n (all_carried by cs) (end + by)) next
           (SpelledAll-carried (at + size_of c) cs (Carries-within _ _ _ (at + size_of c) end _ _ carry (omega arith) (omega arith)) inside s.1),
     )
@@ -35,7 +35,7 @@ IsLive-carried_down {xs} {ys} {at} {by} {bytes} {lock} {owner} carry inside s =
     let was : at + by + need (length bytes) ≤ length ys = s.inside in
     let first = u32_at-carried at by _ _ _ _ carry (omega arith) (omega arith) in
     let second = u32_at-carried (at + 4) by _ _ _ _ carry (omega arith) (omega arith) in
-    let body = slice-carried (at + 8) (length bytes) by _ _ _ _ carry (omega arith) (omega arith) (omega arith) (omega arith) in
+    let body = slice-carried _ _ by _ _ _ _ carry (omega arith) (omega arith) (omega arith) (omega arith) in
     let e : at + by + 4 ≡ at + 4 + by = omega arith in
     let f : at + by + 8 ≡ at + 8 + by = omega arith in
     record {

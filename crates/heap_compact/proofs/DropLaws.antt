@@ -31,7 +31,7 @@ drop_facts {old} {at} {room} {size} {slot} to h d e =
     let at_is : at ≡ to + room = omega (arith, d.there, e) in
     let m = middle_of _ d.before (free room ∷ c ∷ []) d.after _ heap to_is in
     let here : IsBody (area_start old) (d.before ++ free room ∷ c ∷ d.after) slot (at + 8) =
-    AnyPlaced-right (BodyHere slot (at + 8)) _ d.before _ (inr (inl (refl, omega (arith, d.there)))) in
+    AnyPlaced-right _ _ d.before _ (inr (inl (refl, omega (arith, d.there)))) in
     let tied = (heap.tied slot (at + 8) (omega arith)).1 here in
     record {
       accepted = h;
@@ -80,7 +80,7 @@ module _ {old : List ℕ} {at room size slot to : ℕ} {d : IsDroppable old at r
           | inl mine ↦ absurd (isnt (sym mine.0))
           | inr behind ↦
               let e : area_start old + total d.before + room + size_of c ≡ area_start old + total d.before + size_of c + room = omega arith in
-              AnyPlaced-right (BodyHere name place) (area_start old) d.before (c ∷ free room ∷ d.after) (inr (inr (subst (λ (n : ℕ). IsBody n d.after name place) e behind)))
+              AnyPlaced-right (BodyHere name place) (area_start old) d.before (c ∷ free room ∷ d.after) (inr (inr (rw e at behind)))
         ]
       ]
     ]
@@ -90,24 +90,24 @@ module _ {old : List ℕ} {at room size slot to : ℕ} {d : IsDroppable old at r
       forth : IsSlot old name × (u32_at new name ≡ place) → IsBody (area_start old) is name place
       forth s = elim (cases_eq name slot) [
         | inl same ↦
-            AnyPlaced-mid (BodyHere name place) (area_start old) d.before c (free room ∷ d.after) (sym same, omega (arith, f.to_is, own, ap (u32_at new) same, s.1))
-        | inr isnt ↦ still name place isnt ((f.heap.tied name place some).0 (s.0, sym (others name s.0 isnt) ∙ s.1))
+            AnyPlaced-mid _ _ _ c _ (sym same, omega (arith, f.to_is, own, ap (u32_at new) same, s.1))
+        | inr isnt ↦ still name _ isnt ((f.heap.tied name place some).0 (s.0, sym (others name s.0 isnt) ∙ s.1))
       ]
 
       back : IsBody (area_start old) is name place → IsSlot old name × (u32_at new name ≡ place)
-      back b = elim (AnyPlaced-split (BodyHere name place) (area_start old) d.before (c ∷ free room ∷ d.after) b) [
+      back b = elim (AnyPlaced-split _ _ _ _ b) [
         | inl front ↦
             let high = IsBody-high (area_start old) d.before name place front in
-            elsewhere name place some (AnyPlaced-left (BodyHere name place) (area_start old) d.before (free room ∷ c ∷ d.after) front) (λ e. omega (arith, high, f.to_is, f.at_is, e))
+            elsewhere name _ some (AnyPlaced-left _ _ _ _ front) (λ e. omega (arith, high, f.to_is, f.at_is, e))
         | inr rest ↦ elim rest [
           | inl mine ↦
-              (subst (λ (n : ℕ). IsSlot old n) mine.0 f.own, ap (u32_at new) (sym mine.0) ∙ own ∙ omega (arith, f.to_is, mine.1))
+              (rw mine.0 at f.own, ap (u32_at new) (sym mine.0) ∙ own ∙ omega (arith, f.to_is, mine.1))
           | inr more ↦ elim more [
             | inl none ↦ absurd none
             | inr behind ↦
-                let low = IsBody-low (area_start old + total d.before + size_of c + room) d.after name place behind in
+                let low = IsBody-low _ _ name _ behind in
                 let e : area_start old + total d.before + size_of c + room ≡ area_start old + total d.before + room + size_of c = omega arith in
-                elsewhere name place some (AnyPlaced-right (BodyHere name place) (area_start old) d.before (free room ∷ c ∷ d.after) (inr (inr (subst (λ (n : ℕ). IsBody n d.after name place) e behind)))) (λ e. omega (arith, low, f.to_is, f.at_is, e))
+                elsewhere name _ some (AnyPlaced-right _ _ d.before _ (inr (inr (rw e at behind)))) (λ e. omega (arith, low, f.to_is, f.at_is, e))
           ]
         ]
       ]
@@ -129,7 +129,7 @@ module _ {old : List ℕ} {at room size slot to : ℕ} {d : IsDroppable old at r
         wrote_wider _ _ _ _ to (to + 8) word (omega arith) (omega arith)
 
     hole_wrote : WroteWithin head hole (to + size) (to + size + 4)
-    hole_wrote = wrote_word head _ (to + size) (2 ^ 31 + room) hole_is (omega (arith, f.inside, d.takes, least, slid_wrote.len, head_wrote.len))
+    hole_wrote = wrote_word head _ _ _ hole_is (omega (arith, f.inside, d.takes, least, slid_wrote.len, head_wrote.len))
 
     len : length hole ≡ length old
     len = hole_wrote.len ∙ head_wrote.len ∙ slid_wrote.len
@@ -148,9 +148,9 @@ module _ {old : List ℕ} {at room size slot to : ℕ} {d : IsDroppable old at r
         let s : Spelled old at c = f.spelled in
         let part : ℕ → List ℕ = λ n. take (n + size - n) (drop n old) in
         let slid_2 : slid ≡ overwritten old to (part (to + room)) = slid_is ∙ ap (λ (n : ℕ). overwritten old to (part n)) f.at_is in
-        let down : Carries room to (to + size) slid old = subst (λ (xs : List ℕ). Carries room to (to + size) xs old) (sym slid_2) (slid_down old to room size (omega (arith, f.inside, d.takes))) in
-        let carry = Carries-within _ _ _ to (to + size_of c) _ _ down (omega arith) (omega (arith, d.takes)) in
-        let live = IsLive-carried_down carry (omega (arith, f.inside, slid_wrote.len)) (subst (λ (n : ℕ). IsLive old n d.bytes 0 d.owner s.0) f.at_is s.1) in
+        let down : Carries room to (to + size) slid old = rw (← slid_2) at (slid_down old to room size (omega (arith, f.inside, d.takes))) in
+        let carry = Carries-within _ _ _ to _ _ _ down (omega arith) (omega (arith, d.takes)) in
+        let live = IsLive-carried_down carry (omega (arith, f.inside, slid_wrote.len)) (rw f.at_is at s.1) in
         reslots d.bytes 0 d.owner (slot_named to s.0) (s.0, live, s.2, s.3, refl)
 
     dropped : {new : List ℕ} → Reslots slid head to slot → HasHeader hole (to + size) (headers.Free room) → new ≡ overwritten hole slot (u32_bytes (to + 8))
@@ -162,7 +162,7 @@ module _ {old : List ℕ} {at room size slot to : ℕ} {d : IsDroppable old at r
         let c_new = Spelled-same hole new to c (beside_same _ _ _ to end to (to + size_of c) four f.beside (omega arith) (omega arith) (omega (arith, f.inside, len))) four.len c_hole in
         let f_hole : IsFree hole (to + size) room = has_free _ _ _ rest in
         let f_new = Spelled-same hole new (to + size) (free room) (beside_same _ _ _ to end (to + size) (to + size + room) four f.beside (omega arith) (omega (arith, d.takes)) (omega (arith, f.inside, d.takes, len))) four.len f_hole in
-        let spelled : SpelledAll new to (c ∷ free room ∷ []) end = (c_new, (subst (λ (n : ℕ). Spelled new (to + n) (free room)) d.takes f_new, omega arith)) in
+        let spelled : SpelledAll new to (c ∷ free room ∷ []) end = (c_new, (rw d.takes at f_new, omega arith)) in
         let r = area_replaces _ _ d.before (free room ∷ c ∷ []) (c ∷ free room ∷ []) d.after _ f.heap.tiles tt f.to_is f.middle.inside w spelled in
         let others : (other : ℕ) → IsSlot old other → other ≢ slot → u32_at new other ≡ u32_at old other =
         λ other o ne. area_slots _ _ d.before (free room ∷ c ∷ []) d.after _ _ f.heap.tiles tt f.to_is w o (λ e. ne (sym e)) in
@@ -176,7 +176,7 @@ module _ {old : List ℕ} {at room size slot to : ℕ} {d : IsDroppable old at r
         ∙ ap (λ (bs : List ℕ). u32_at bs (to + size)) hole_is ∙ u32_at-written (2 ^ 31 + room) (to + size) head (omega (arith, f.inside, d.takes, least, slid_wrote.len, head_wrote.len)) (omega (arith, f.inside, f.middle.most)) in
         let plain = replaced_plain _ _ _ _ _ _ _ (chunks_of-tiled _ _ f.heap.tiles) heap r (λ there h. elim h [
           | inl none ↦ absurd none
-          | inr more ↦ free_plain new (to + size_of c) room [] (subst (λ (n : ℕ). u32_at new (to + n) ≡ 2 ^ 31 + room) d.takes at_hole) (omega (arith, f.inside, f.middle.most)) (λ there none. absurd none) there more
+          | inr more ↦ free_plain new (to + size_of c) room [] (rw d.takes at at_hole) (omega (arith, f.inside, f.middle.most)) (λ there none. absurd none) there more
         ]) in (
           exactly_heap r.head heap plain,
           λ there low b. keeps_replaced _ _ _ _ _ _ _ f.accepted (chunks_of-tiled _ _ f.heap.tiles) heap r there (outside_apart _ d.before (free room ∷ c ∷ []) d.after _ there f.heap f.to_is (inl low)) b,
@@ -217,7 +217,7 @@ join_facts {old} before size after {at} room to h chunks there e =
     let b = gap_total room in
     let parts = SpelledAll-split old to (gap room) (free size ∷ []) (to + total (gap room ++ free size ∷ [])) m.spelled in
     let here : to + total (gap room) ≡ at = omega (arith, b, there, e) in
-    record { accepted = h; heap = heap; middle = m; sizes = omega (arith, a, b); to_is = to_is; is_free = subst (λ (n : ℕ). IsFree old n size) here parts.1.0 }
+    record { accepted = h; heap = heap; middle = m; sizes = omega (arith, a, b); to_is = to_is; is_free = rw here at parts.1.0 }
 
 pub joined : {old new : List ℕ} {before : List Chunk} {size : ℕ} {after : List Chunk} {at room to : ℕ} → JoinFacts old before size after at room to → new ≡ overwritten old to (u32_bytes (2 ^ 31 + (room + size))) → HasHeader new to (headers.Free (room + size))
     → BecomesExactly old new (before ++ (gap (room + size) ++ after)) × KeepsFree (Before to) old new

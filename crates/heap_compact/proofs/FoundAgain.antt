@@ -20,7 +20,7 @@ named_one found n f = record {
 
 -- the name 0 names no chunk that was found
 pub some_name : {image : List ℕ} (found : Found) → HeapAccepted image → IsOne image found → found.name.0 ≢ 0
-some_name {image} found h f none = let nothing = sym (one_held _ found h f) ∙ ap (held image) none ∙ held-zero _ h in absurd cc
+some_name {image} found h f none = let nothing = sym (one_held _ _ h f) ∙ ap (held image) none ∙ held-zero _ h in absurd cc
 
 -- the directory's chunk is the manager's once it was moved
 pub moved_owner : {old mid : List ℕ} (new : List ℕ) (found : Found) {at size : ℕ} (count : ℕ) → HeapAccepted old → IsOne old found → found.lock ≡ 0 → found.name.0 ≡ directory_of old → NamesDirectory old mid 0 → IsSpot mid at size → need count ≤ size → RelocatesFound mid new found at size count
@@ -28,9 +28,9 @@ pub moved_owner : {old mid : List ℕ} (new : List ℕ) (found : Found) {at size
 unfolding owner_under
 moved_owner {old} {mid} new found {at} {size} count h f unlocked is n r fits moved =
     let g : IsOne mid found = named_one found n f in
-    let owned : f.live.owner ≡ managers_owner = directory_owned _ f.live h (sym (ap (held old) is) ∙ one_held _ found h f) in
+    let owned : f.live.owner ≡ managers_owner = directory_owned _ _ h (sym (ap (held old) is) ∙ one_held _ _ h f) in
     when_movable _ _ _ g (λ c k. Relocates mid new (found.place.0 - 8) at size (with_length count c) → owner_of (held new found.name.0) ≡ managers_owner) (λ e. omega arith)
-    (λ bytes lock owner slot k x. ap owner_of (relocate_changes _ new _ _ _ _ count _ _ _ _ _ n.accepted k r fits x).here ∙ owned)
+    (λ bytes lock owner slot k x. ap owner_of (relocate_changes _ new _ _ _ _ _ _ _ _ _ _ n.accepted k r fits x).here ∙ owned)
     (moved g)
 
 -- ---- free chunks are joined

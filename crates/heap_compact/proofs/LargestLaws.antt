@@ -15,13 +15,13 @@ raised_onto more c (run ∷ runs) = let s = sum_by-cons free_size c run in ap (�
 
 raised_none : (some : List ℕ) → greatest (raised 0 some) ≡ greatest some
 raised_none [] = refl
-raised_none (room ∷ others) = ap (λ (n : ℕ). max n (greatest others)) (let e : 0 + room ≡ room = omega arith in e)
+raised_none (room ∷ others) = ap (λ (n : ℕ). max n (greatest _)) (let e : 0 + room ≡ room = omega arith in e)
 
 stays_behind : (more : ℕ) (cs : List Chunk) → greatest_behind 0 cs ≡ greatest (raised 0 (rooms_of (runs_between cs))) → max more (greatest_behind 0 cs) ≡ greatest (raised more (rooms_of ([] ∷ runs_between cs)))
 stays_behind more cs e =
     let rest = e ∙ raised_none (rooms_of (runs_between cs)) in
     let none : room_of [] ≡ 0 = refl in
-    ap (λ (n : ℕ). max more n) rest ∙ ap (λ (n : ℕ). max n (greatest (rooms_of (runs_between cs)))) (let e : more ≡ more + room_of [] = omega arith in e)
+    ap (λ (n : ℕ). max more n) rest ∙ ap (λ (n : ℕ). max n (greatest _)) (let e : more ≡ more + room_of [] = omega arith in e)
 
 runs_greatest : (more : ℕ) (cs : List Chunk) → greatest_behind more cs ≡ greatest (raised more (rooms_of (runs_between cs)))
 runs_greatest more [] = let none : room_of [] ≡ 0 = refl in let e : more ≡ max (more + room_of []) 0 = omega arith in e
@@ -38,7 +38,7 @@ some_greatest ([] ∷ runs) = let ih = some_greatest runs in let none : room_of 
 some_greatest ((c ∷ run) ∷ runs) = ap (λ (n : ℕ). max (room_of (c ∷ run)) n) (some_greatest runs)
 
 chunks_greatest : (cs : List Chunk) → greatest_behind 0 cs ≡ greatest (rooms_of (stretches cs))
-chunks_greatest cs = runs_greatest 0 cs ∙ raised_none (rooms_of (runs_between cs)) ∙ sym (some_greatest (runs_between cs))
+chunks_greatest cs = runs_greatest 0 cs ∙ raised_none _ ∙ sym (some_greatest _)
 
 -- ---- the walk
 
@@ -84,12 +84,12 @@ rooms_fit largest room p =
 
 pub rooms_closed : {image : List ℕ} (largest room : ℕ) {at : ℕ} {header : Header} → Passed image (HaveRooms largest room) at → HasHeader image at header → HeaderStays header → Passed image (HaveRooms (max largest room) 0) (at + size_by header)
 rooms_closed largest room p has stay =
-    passed_more _ _ (HaveRooms (max largest room) 0) _ _ p has (rooms_stay has.chunk (subst HeaderStays has.header_is stay) p.holds)
+    passed_more _ _ _ _ _ p has (rooms_stay _ (subst HeaderStays has.header_is stay) p.holds)
 
 pub rooms_more : {image : List ℕ} (largest room : ℕ) {at : ℕ} {header : Header} → Passed image (HaveRooms largest room) at → HasHeader image at header → (HeaderStays header → ⊥) → Passed image (HaveRooms largest (room + free_by header)) (at + size_by header)
 rooms_more largest room {header} p has loose =
     passed_more _ _ (HaveRooms largest (room + free_by header)) _ _ p has
-    (subst (λ (header : Header). HaveRooms largest (room + free_by header) (p.front ++ has.chunk ∷ [])) (sym has.header_is) (rooms_go_on has.chunk (λ stay. loose (subst HeaderStays (sym has.header_is) stay)) p.holds))
+    (rw (← has.header_is) at (rooms_go_on has.chunk (λ stay. loose (subst HeaderStays (sym has.header_is) stay)) p.holds))
 
 pub rooms_all : {image : List ℕ} (largest room : ℕ) {at : ℕ} → HeapAccepted image → Passed image (HaveRooms largest room) at → length image ≤ at → max largest room ≡ greatest (rooms image)
 rooms_all {image} largest room h p beyond =

@@ -15,7 +15,7 @@ pub lifted_within : {m : Memory} {start end gap : ℕ} → HoldsHeap m → HasFr
 lifted_within {m} {start} {end} {gap} h b =
     let sizes = total-append b.mid (free gap ∷ []) in
     part_within _ _ _ start (end - start + gap)
-    (run_within m b.before (b.mid ++ free gap ∷ []) b.after _ h.accepted h.lent (in_parts b) b.from (none_stay b)) (omega arith) (omega (arith, b.to, sizes))
+    (run_within m _ _ b.after _ h.accepted h.lent (in_parts b) b.from (none_stay b)) (omega arith) (omega (arith, b.to, sizes))
 
 pub lifted_holds : {old new : Memory} {start end gap : ℕ} → HoldsHeap old → new.lents ≡ old.lents → HasFreeBehind old.bytes start end gap → Lifts old.bytes new.bytes start end gap → HoldsHeap new
 lifted_holds {old} {new} {gap} h same b lifts =
@@ -33,9 +33,9 @@ lifted_holds {old} {new} {gap} h same b lifts =
 pub table_still : {old : Memory} (new : Memory) → HasTable old → new.lents ≡ old.lents → length new.bytes ≡ length old.bytes → tables_of new.bytes ≡ tables_of old.bytes → HasTable new
 table_still {old} new t same len tables = record {
   lie = tables_lie _ new.bytes len tables t.lie;
-  first_misses = subst (λ (x : List Lent). Misses x 0 (head_end new.bytes)) (sym same) (subst (λ (n : ℕ). Misses old.lents 0 n) (sym (ends_listed old.bytes new.bytes tables)) t.first_misses);
+  first_misses = rw (← same) at (rw (← (ends_listed old.bytes new.bytes tables)) at t.first_misses);
   slots_miss = subst (λ (x : List Lent). EveryOne (λ slot. Misses x slot slot_size) (slots_of new.bytes)) (sym same)
-      (subst (λ (xs : List ℕ). EveryOne (λ slot. Misses old.lents slot slot_size) xs) (sym (same_slots old.bytes new.bytes tables)) t.slots_miss);
+      (rw (← (same_slots old.bytes new.bytes tables)) at t.slots_miss);
 }
 
 pub walk_table : {first : Memory} (now : Memory) {gap start at end : ℕ} → Walks first.bytes now.bytes gap start at end → AreCarried first.bytes gap start end → now.lents ≡ first.lents → HasTable first → HasTable now
@@ -47,7 +47,7 @@ walk_table now w a same t =
 pub slot_again_within : {old : Memory} (new : Memory) {slot : ℕ} → HasTable old → IsSlot old.bytes slot → new.lents ≡ old.lents → TablesLie new.bytes → IsSlot new.bytes slot → IsWithin new slot 4
 slot_again_within {old} new {slot} t s same lie again = record {
   inside = each_slot (λ n. n + slot_size ≤ length new.bytes) _ lie.slots _ again;
-  misses = subst (λ (x : List Lent). Misses x slot 4) (sym same) (each_slot (λ n. Misses old.lents n slot_size) _ t.slots_miss _ s);
+  misses = rw (← same) at (each_slot (λ n. Misses old.lents n slot_size) _ t.slots_miss _ s);
 }
 
 -- ---- the header at which the walk has come
@@ -62,4 +62,4 @@ walk_misses {image} lents {start} {at} {end} w a more m = by_back s.back s.lifti
   by_back (c ∷ back) l e =
       let was = a.lifting.there in
       let t = total-append a.done s.front in
-      part_misses lents start (end - start) at 8 m (omega (arith, was, l.there, t)) (omega (arith, was, l.there, t, e, some_size l))
+      part_misses _ _ _ at 8 m (omega (arith, was, l.there, t)) (omega (arith, was, l.there, t, e, some_size l))

@@ -7,7 +7,7 @@ use Rattle.heap_compact.proofs.Words.{◌≡◌, ◌≢◌, ℕ, zero, suc, ◌+
 pub front_within : {m : Memory} {found : Found} {n : ℕ} → HoldsHeap m → IsOne m.bytes found → LendsOther m found.place.0 → n ≤ found.length → IsWithin m found.place.0 n
 front_within {m} {found} {n} h f other few =
     let start : found.place.0 + 0 ≡ found.place.0 = omega arith in
-    subst (λ (k : ℕ). IsWithin m k n) start (one_body_within m found 0 n h.accepted h.lent f other (omega (arith, few)))
+    subst (λ (k : ℕ). IsWithin m k n) start (one_body_within m _ 0 n h.accepted h.lent f other (omega (arith, few)))
 
 pub regrown_within : {m : Memory} {found : Found} {more : ℕ} → HoldsHeap m → (r : RunBehind m.bytes found more) → LendsOther m found.place.0 → IsWithin m (found.place.0 - 8) (need found.length + more)
 regrown_within {m} {found} {more} h r other =
@@ -44,7 +44,7 @@ pub dropped_within : {m : Memory} {at room size slot : ℕ} → HoldsHeap m → 
 dropped_within {m} {at} {room} {size} {slot} h d =
     let pair : List Chunk = free room ∷ movable d.bytes 0 d.owner slot ∷ [] in
     let sizes : total pair ≡ room + size = omega (arith, d.takes) in
-    subst (λ (n : ℕ). IsWithin m (at - room) n) sizes (run_within m d.before pair d.after (at - room) h.accepted h.lent d.chunks (omega (arith, d.there)) tt)
+    subst (λ (n : ℕ). IsWithin m (at - room) n) sizes (run_within m _ pair _ _ h.accepted h.lent d.chunks (omega (arith, d.there)) tt)
 
 pub dropped_holds : {old new : Memory} {at room size slot : ℕ} → HoldsHeap old → new.lents ≡ old.lents → IsDroppable old.bytes at room size slot → MovesDown old.bytes new.bytes at room size slot → HoldsHeap new
 dropped_holds {old} {new} {room} {slot} h same d moves =
@@ -100,5 +100,5 @@ resized_total count {more} c run sums both =
 
 pub length_size : (count name at : ℕ) (live : LiveChunk) (c : Chunk) → NamedHere name live at c → size_of (with_length count c) ≡ need count
 length_size count name at live (free size) n = absurd n
-length_size count name at live (movable bytes lock owner slot) n = ap need (length-sized_to bytes count)
+length_size count name at live (movable bytes lock owner slot) n = ap need (length-sized_to _ _)
 length_size count name at live (fixed bytes owner) n = ap need (length-sized_to bytes count)

@@ -7,7 +7,7 @@ use Rattle.heap_compact.proofs.ExactLaws.{exactly_start}
 loose_known : (tables : List Table) (at : ℕ) (cs : List Chunk) → NoneStays cs → EveryPlaced (IsKnownIfFixed tables) at cs
 loose_known tables at [] n = tt
 loose_known tables at (free size ∷ cs) n = (tt, loose_known tables (at + size) cs n)
-loose_known tables at (movable bytes zero owner slot ∷ cs) n = (tt, loose_known tables (at + need (length bytes)) cs n)
+loose_known tables at (movable bytes zero owner slot ∷ cs) n = (tt, loose_known _ _ cs n)
 loose_known tables at (movable bytes (suc count) owner slot ∷ cs) n = absurd n
 loose_known tables at (fixed bytes owner ∷ cs) n = absurd n
 
@@ -31,7 +31,7 @@ bodies_up : (slot place at by : ℕ) (cs : List Chunk) → IsBody at cs slot pla
 bodies_up slot place at by [] b = b
 bodies_up slot place at by (c ∷ cs) b = elim b [
   | inl here ↦ inl (body_up slot place at by c here)
-  | inr later ↦ let e : at + size_of c + by ≡ at + by + size_of c = omega arith in inr (subst (λ (n : ℕ). IsBody n cs slot (place + by)) e (bodies_up slot place (at + size_of c) by cs later))
+  | inr later ↦ let e : at + size_of c + by ≡ at + by + size_of c = omega arith in inr (rw e at (bodies_up slot place (at + size_of c) by cs later))
 ]
 
 body_down : (slot place at by : ℕ) (c : Chunk) → BodyHere slot place (at + by) c → BodyHere slot (place - by) at c
@@ -43,15 +43,15 @@ bodies_down : (slot place at by : ℕ) (cs : List Chunk) → IsBody (at + by) cs
 bodies_down slot place at by [] b = b
 bodies_down slot place at by (c ∷ cs) b = elim b [
   | inl here ↦ inl (body_down slot place at by c here)
-  | inr later ↦ let e : at + by + size_of c ≡ at + size_of c + by = omega arith in inr (bodies_down slot place (at + size_of c) by cs (subst (λ (n : ℕ). IsBody n cs slot place) e later))
+  | inr later ↦ let e : at + by + size_of c ≡ at + size_of c + by = omega arith in inr (bodies_down slot place (at + size_of c) by cs (rw e at later))
 ]
 
 -- a body among chunks in a row
 pub body_in : (at : ℕ) (xs ys : List Chunk) (next slot place : ℕ) → next ≡ at + total xs → IsBody at (xs ++ ys) slot place → IsBody at xs slot place ⊎ IsBody next ys slot place
-body_in at xs ys next slot place e b = elim (AnyPlaced-split (BodyHere slot place) at xs ys b) [ inl front ↦ inl front | inr back ↦ inr (subst (λ (n : ℕ). IsBody n ys slot place) (sym e) back) ]
+body_in at xs ys next slot place e b = elim (AnyPlaced-split _ at xs ys b) [ inl front ↦ inl front | inr back ↦ inr (rw (← e) at back) ]
 
 pub body_behind : (at : ℕ) (xs ys : List Chunk) (next slot place : ℕ) → next ≡ at + total xs → IsBody next ys slot place → IsBody at (xs ++ ys) slot place
-body_behind at xs ys next slot place e b = AnyPlaced-right (BodyHere slot place) at xs ys (subst (λ (n : ℕ). IsBody n ys slot place) e b)
+body_behind at xs ys next slot place e b = AnyPlaced-right _ at xs ys (rw e at b)
 
 pub body_front : (at : ℕ) (xs ys : List Chunk) (slot place : ℕ) → IsBody at xs slot place → IsBody at (xs ++ ys) slot place
 body_front at xs ys slot place b = AnyPlaced-left (BodyHere slot place) at xs ys b
@@ -83,14 +83,14 @@ module _ {gap : ℕ} {u : Lift gap} {image : List ℕ} {moved : List Chunk} {at 
     | inl front ↦
         let high = IsBody-high (area_start u.old) u.before slot (u32_at u.old slot) front in
         let same : u32_at image slot ≡ u32_at u.old slot = l.kept slot s (inl (omega (arith, high, is_start))) in
-        body_front (area_start u.old) u.before (free gap ∷ (moved ++ u.after)) slot (u32_at image slot) (subst (λ (p : ℕ). IsBody (area_start u.old) u.before slot p) (sym same) front)
+        body_front (area_start u.old) u.before (free gap ∷ (moved ++ u.after)) slot (u32_at image slot) (rw (← same) at front)
     | inr rest ↦ elim (body_in start moved (free gap ∷ u.after) (start + total moved) slot (u32_at u.old slot) refl rest) [
       | inl here ↦
           let low = IsBody-low start moved slot (u32_at u.old slot) here in
           let high = IsBody-high start moved slot (u32_at u.old slot) here in
           let same : u32_at image slot ≡ u32_at u.old slot + gap = l.lifted slot s (omega (arith, low, is_start)) (omega (arith, high, end)) in
           body_behind (area_start u.old) u.before (free gap ∷ (moved ++ u.after)) _ slot (u32_at image slot) is_start
-          (inr (body_front (start + gap) moved u.after slot (u32_at image slot) (subst (λ (p : ℕ). IsBody (start + gap) moved slot p) (sym same) (bodies_up slot (u32_at u.old slot) start gap moved here))))
+          (inr (body_front (start + gap) moved u.after slot (u32_at image slot) (rw (← same) at (bodies_up slot (u32_at u.old slot) start gap moved here))))
       | inr behind ↦ elim behind [
         | inl none ↦ absurd none
         | inr back ↦
@@ -127,7 +127,7 @@ module _ {gap : ℕ} {u : Lift gap} {image : List ℕ} {moved : List Chunk} {at 
             let low = IsBody-low (start + gap + total moved) u.after slot place back in
             let e : start + gap + total moved ≡ start + total moved + gap = omega arith in
             let was = of_old slot place (body_behind (area_start u.old) u.before (moved ++ free gap ∷ u.after) _ slot place is_start
-            (body_behind start moved (free gap ∷ u.after) (start + total moved) slot place refl (inr (subst (λ (n : ℕ). IsBody n u.after slot place) e back)))) (omega arith) in
+            (body_behind start moved (free gap ∷ u.after) (start + total moved) slot place refl (inr (rw e at back)))) (omega arith) in
             (was.0, l.kept slot was.0 (inr (omega (arith, low, was.1, end))) ∙ was.1)
       ]
     ]
@@ -145,13 +145,13 @@ module _ {gap : ℕ} {u : Lift gap} {image : List ℕ} {moved : List Chunk} {at 
   place_new : (slot place : ℕ) → 0 < place → u32_at image slot ≡ place → IsSlot u.old slot → IsBody (area_start u.old) lifted slot place
   place_new slot place some e s = elim (cases_eq (u32_at u.old slot) 0) [
     | inl none ↦ let same : u32_at image slot ≡ u32_at u.old slot = l.kept slot s (inl (omega (arith, none))) in absurd (omega arith)
-    | inr used ↦ subst (λ (p : ℕ). IsBody (area_start u.old) lifted slot p) e (to_new slot s (omega arith))
+    | inr used ↦ rw e at (to_new slot s (omega arith))
   ]
 
   tied_again : (slot place : ℕ) → 0 < place → ((IsSlot image slot × (u32_at image slot ≡ place)) ↔ IsBody (area_start image) lifted slot place)
   tied_again slot place some = (
-    λ s. subst (λ (n : ℕ). IsBody n lifted slot place) (sym new_start) (place_new slot place some s.1 (slot_old slot s.0)),
-    λ b. let s = to_old slot place (subst (λ (n : ℕ). IsBody n lifted slot place) new_start b) in (slot_new slot s.0, s.1),
+    λ s. rw (← new_start) at (place_new slot place some s.1 (slot_old slot s.0)),
+    λ b. let s = to_old slot place (rw new_start at b) in (slot_new slot s.0, s.1),
   )
 
   known_again : NoneStays moved → EveryPlaced (IsKnownIfFixed (further_tables image)) (area_start image) lifted
@@ -164,19 +164,19 @@ module _ {gap : ℕ} {u : Lift gap} {image : List ℕ} {moved : List Chunk} {at 
       subst (λ (ts : List Table). EveryPlaced (IsKnownIfFixed ts) (area_start image) lifted) (sym (ap (λ (t : Tables). t.further) l.tables))
       (subst (λ (n : ℕ). EveryPlaced known n lifted) (sym new_start)
       (EveryPlaced-append known (area_start u.old) u.before (free gap ∷ (moved ++ u.after)) first.0
-      (tt, EveryPlaced-append known (here + gap) moved u.after (loose_known (further_tables u.old) (here + gap) moved loose) (subst (λ (n : ℕ). EveryPlaced known n u.after) e second.1.1))))
+      (tt, EveryPlaced-append known (here + gap) moved u.after (loose_known (further_tables u.old) (here + gap) moved loose) (rw e at second.1.1))))
 
   managers_again : (slot : ℕ) → AnyPlaced (ManagersHere slot) (area_start u.old) unlifted → AnyPlaced (ManagersHere slot) (area_start image) lifted
   managers_again slot h =
       let here : ℕ = area_start image + total u.before in
       let P : ℕ → Chunk → Type 0 = ManagersHere slot in
       elim (AnyPlaced-split P (area_start u.old) u.before (moved ++ free gap ∷ u.after) h) [
-        | inl front ↦ AnyPlaced-left P (area_start image) u.before (free gap ∷ (moved ++ u.after)) (managers_anywhere slot (area_start u.old) (area_start image) u.before front)
-        | inr rest ↦ AnyPlaced-right P (area_start image) u.before (free gap ∷ (moved ++ u.after)) (inr (elim (AnyPlaced-split P (area_start u.old + total u.before) moved (free gap ∷ u.after) rest) [
-          | inl mid ↦ AnyPlaced-left P (here + gap) moved u.after (managers_anywhere slot (area_start u.old + total u.before) (here + gap) moved mid)
+        | inl front ↦ AnyPlaced-left P _ _ _ (managers_anywhere slot _ _ _ front)
+        | inr rest ↦ AnyPlaced-right P _ _ (free gap ∷ (moved ++ u.after)) (inr (elim (AnyPlaced-split P (area_start u.old + total u.before) moved (free gap ∷ u.after) rest) [
+          | inl mid ↦ AnyPlaced-left P _ _ _ (managers_anywhere slot _ _ _ mid)
           | inr more ↦ AnyPlaced-right P (here + gap) moved u.after (elim more [
             | inl none ↦ absurd none
-            | inr back ↦ managers_anywhere slot (area_start u.old + total u.before + total moved + gap) (here + gap + total moved) u.after back
+            | inr back ↦ managers_anywhere slot _ _ _ back
           ])
         ]))
       ]
@@ -184,7 +184,7 @@ module _ {gap : ℕ} {u : Lift gap} {image : List ℕ} {moved : List Chunk} {at 
   directory_again : HasDirectory image lifted
   directory_again = elim l.heap.directory [
     | inl none ↦ inl (l.directory ∙ none)
-    | inr m ↦ inr (subst (λ (d : ℕ). AnyPlaced (ManagersHere d) (area_start image) lifted) (sym l.directory) (managers_again (directory_of u.old) m))
+    | inr m ↦ inr (rw (← l.directory) at (managers_again (directory_of u.old) m))
   ]
 
   heap_again : NoneStays moved → IsHeap image lifted
@@ -195,9 +195,9 @@ module _ {gap : ℕ} {u : Lift gap} {image : List ℕ} {moved : List Chunk} {at 
       let sizes = total-append moved (free gap ∷ []) in
       let was : chunks_of u.old ≡ u.before ++ ((moved ++ free gap ∷ []) ++ u.after) =
       chunks_of-tiled _ _ l.heap.tiles ∙ ap (λ (cs : List Chunk). u.before ++ cs) (sym (append_assoc moved (free gap ∷ []) u.after)) in
-      let word : u32_at image start ≡ 2 ^ 31 + gap = subst (λ (k : ℕ). u32_at image k ≡ 2 ^ 31 + gap) (sym is_start) l.plain in
-      middle_plain u.old _ u.before (moved ++ free gap ∷ []) (free gap ∷ moved) u.after _ was l.tiles new_start is_start (omega (arith, sizes)) l.front
-      (subst (λ (k : ℕ). SameWords u.old image k u.after) (let same : at + total [] ≡ start + total (moved ++ free gap ∷ []) = omega (arith, sizes, end) in same) l.back)
+      let word : u32_at image start ≡ 2 ^ 31 + gap = rw (← is_start) at l.plain in
+      middle_plain _ _ _ _ (free gap ∷ moved) u.after _ was l.tiles new_start is_start (omega (arith, sizes)) l.front
+      (rw (let same : at + total [] ≡ start + total (moved ++ free gap ∷ []) = omega (arith, sizes, end) in same) at l.back)
       (free_plain image start gap moved word small (lives_plain image (start + gap) _ live))
 
   pub lift_done : gap < 2 ^ 24 → lives moved ≡ moved → NoneStays moved → BecomesExactly u.old image lifted

@@ -32,7 +32,7 @@ module _ {first image : List ℕ} {gap start at end : ℕ} (w : Walks first imag
           front = s.front ++ c ∷ [];
           back = back;
           parts = parts ∙ sym (append_assoc s.front (c ∷ []) back);
-          lifting = subst (λ (cs : List Chunk). Lifting u new cs back next) (append_assoc done s.front (c ∷ [])) m;
+          lifting = rw (append_assoc done s.front (c ∷ [])) at m;
           ends = omega (arith, ends, k.there, m.there, total-append (done ++ s.front) (c ∷ []));
         }
 
@@ -40,7 +40,7 @@ module _ {first image : List ℕ} {gap start at end : ℕ} (w : Walks first imag
   pub walk_state : AreCarried first gap start end → AreCarried image gap at end
   walk_state a =
       let s = w a.lift a.done a.rest a.lifting a.ends in
-      record { lift = a.lift; done = a.done ++ s.front; rest = s.back; lifting = s.lifting; ends = s.ends }
+      record { lift = a.lift; done = a.done ++ s.front; rest = _; lifting = s.lifting; ends = s.ends }
 
   -- at its end all are mended
   pub walk_done : end ≤ at → MendsAll first image gap start end
@@ -51,7 +51,7 @@ module _ {first image : List ℕ} {gap start at end : ℕ} (w : Walks first imag
     no_more : (back : List Chunk) → rest ≡ s.front ++ back → Lifting u image (done ++ s.front) back at → end ≡ at + total back → Lifting u image (done ++ rest) [] end
     no_more [] parts k ends =
         let stop : at ≡ end = omega (arith, ends, past) in
-        subst (λ (n : ℕ). Lifting u image (done ++ rest) [] n) stop (subst (λ (cs : List Chunk). Lifting u image (done ++ cs) [] at) (sym (parts ∙ append-nil s.front)) k)
+        subst (λ (n : ℕ). Lifting u image (done ++ rest) [] n) stop (rw (← (parts ∙ append-nil s.front)) at k)
     no_more (c ∷ back) parts k ends = absurd (omega (arith, ends, past, some_size k))
 
 module _ {image : List ℕ} {gap at end : ℕ} (a : AreCarried image gap at end) (more : at < end) where

@@ -10,11 +10,11 @@ whose : {old : List ℕ} (front : List Chunk) (c : Chunk) (back : List Chunk) {a
 whose {old} front c back {slot} h there s low high =
     let place : ℕ = u32_at old slot in
     let P : ℕ → Chunk → Type 0 = BodyHere slot place in
-    elim (AnyPlaced-split P (area_start old) front (c ∷ back) ((h.tied slot place (omega arith)).0 (s, refl))) [
-      | inl early ↦ let up = IsBody-high (area_start old) front slot place early in absurd (omega (arith, up, low, there))
+    elim (AnyPlaced-split P _ _ _ ((h.tied slot place (omega arith)).0 (s, refl))) [
+      | inl early ↦ let up = IsBody-high _ front slot place early in absurd (omega (arith, up, low, there))
       | inr rest ↦ elim rest [
         | inl here ↦ subst (λ (n : ℕ). BodyHere slot (u32_at old slot) n c) (sym there) here
-        | inr late ↦ let down = IsBody-low (area_start old + total front + size_of c) back slot place late in absurd (omega (arith, down, high, there))
+        | inr late ↦ let down = IsBody-low _ back slot _ late in absurd (omega (arith, down, high, there))
       ]
     ]
 
@@ -40,7 +40,7 @@ pub record NextOf {gap : ℕ} (u : Lift gap) (image : List ℕ) (done : List Chu
 -- the tiles, with a chunk among those that are mended
 grown_tiles : {image : List ℕ} (before done : List Chunk) (c : Chunk) (others : List Chunk) (gap : ℕ) → Tiles image ((before ++ free gap ∷ done) ++ c ∷ others) → Tiles image (before ++ free gap ∷ ((done ++ c ∷ []) ++ others))
 grown_tiles {image} before done c others gap t =
-    subst (λ (cs : List Chunk). Tiles image (before ++ free gap ∷ cs)) (sym (append_assoc done (c ∷ []) others)) (subst (λ (cs : List Chunk). Tiles image cs) (append_assoc before (free gap ∷ done) (c ∷ others)) t)
+    subst (λ (cs : List Chunk). Tiles image (before ++ free gap ∷ cs)) (sym (append_assoc done _ others)) (rw (append_assoc before (free gap ∷ done) (c ∷ others)) at t)
 
 module _ {gap : ℕ} {u : Lift gap} {image : List ℕ} {done : List Chunk} {c : Chunk} {rest : List Chunk} {at : ℕ} (l : Lifting u image done (c ∷ rest) at) where
   abbrev others : List Chunk
@@ -55,9 +55,9 @@ module _ {gap : ℕ} {u : Lift gap} {image : List ℕ} {done : List Chunk} {c : 
       let more = total-append u.before (free gap ∷ done) in
       let starts = start_listed u.old image l.tables in
       let at_is : at ≡ area_start image + total front = omega (arith, l.there, more, starts) in
-      let tiles : Tiles image (front ++ carried gap c ∷ others) = subst (λ (cs : List Chunk). Tiles image cs) (sym (append_assoc u.before (free gap ∷ done) (carried gap c ∷ others))) l.tiles in
+      let tiles : Tiles image (front ++ carried gap c ∷ others) = rw (← (append_assoc u.before (free gap ∷ done) (carried gap c ∷ others))) at l.tiles in
       let parts = SpelledAll-split image (area_start image) front (carried gap c ∷ others) (length image) tiles.area in
-      let spelled : Spelled image at (carried gap c) = subst (λ (n : ℕ). Spelled image n (carried gap c)) (sym at_is) parts.1.0 in
+      let spelled : Spelled image at (carried gap c) = rw (← at_is) at parts.1.0 in
       let units = total_whole image (area_start image) front (area_start image + total front) parts.0 in
       let in_front = (SpelledAll-split image (area_start image) u.before (free gap ∷ done) (area_start image + total front) parts.0).1 in
       record {
@@ -65,8 +65,8 @@ module _ {gap : ℕ} {u : Lift gap} {image : List ℕ} {done : List Chunk} {c : 
         was_is = refl;
         at_is = omega (arith, l.there, both);
         start_is = omega (arith, both);
-        heap = subst (λ (cs : List Chunk). IsHeap u.old cs) (sym (append_assoc u.before done (c ∷ (rest ++ free gap ∷ u.after)))) l.heap;
-        grown = subst (λ (cs : List Chunk). IsHeap u.old (u.before ++ cs)) (sym (append_assoc done (c ∷ []) (rest ++ free gap ∷ u.after))) l.heap;
+        heap = rw (← (append_assoc u.before done (c ∷ (rest ++ free gap ∷ u.after)))) at l.heap;
+        grown = rw (← (append_assoc done (c ∷ []) (rest ++ free gap ∷ u.after))) at l.heap;
         there = at_is;
         tiles = tiles;
         spelled = spelled;
@@ -85,7 +85,7 @@ module _ {gap : ℕ} {u : Lift gap} {image : List ℕ} {done : List Chunk} {c : 
   whose_next : (slot : ℕ) → IsSlot u.old slot → at < u32_at u.old slot + gap → u32_at u.old slot + gap ≤ at + size_of c → BodyHere slot (u32_at u.old slot) next_of.was c
   whose_next slot s beyond high =
       let n = next_of in
-      whose (u.before ++ done) c (rest ++ free gap ∷ u.after) n.heap n.was_is s (omega (arith, beyond, n.at_is)) (omega (arith, high, n.at_is))
+      whose _ c _ n.heap n.was_is s (omega (arith, beyond, n.at_is)) (omega (arith, high, n.at_is))
 
   -- ---- a chunk that needs no mending
 
@@ -93,7 +93,7 @@ module _ {gap : ℕ} {u : Lift gap} {image : List ℕ} {done : List Chunk} {c : 
   step_kept same no_body = record {
     heap = next_of.grown;
     there = grown_there;
-    tiles = grown_tiles u.before done c others gap (subst (λ (d : Chunk). Tiles image (front ++ d ∷ others)) same next_of.tiles);
+    tiles = grown_tiles u.before done c others gap (rw same at next_of.tiles);
     len = l.len;
     tables = l.tables;
     slots = l.slots;
@@ -105,7 +105,7 @@ module _ {gap : ℕ} {u : Lift gap} {image : List ℕ} {done : List Chunk} {c : 
     kept = λ slot s out. l.kept slot s (elim out [ inl low ↦ inl low | inr beyond ↦ inr (omega (arith, beyond)) ]);
     plain = l.plain;
     front = l.front;
-    back = subst (λ (k : ℕ). SameWords u.old image k u.after) (let next : at + total (c ∷ rest) ≡ at + size_of c + total rest = omega arith in next) l.back;
+    back = rw (let next : at + total (c ∷ rest) ≡ at + size_of c + total rest = omega arith in next) at l.back;
   }
 
 -- ---- a movable chunk
@@ -129,7 +129,7 @@ module _ {gap : ℕ} {u : Lift gap} {image : List ℕ} {done : List Chunk} {byte
   own_slot : IsSlot u.old slot × (u32_at u.old slot ≡ (next_of l).was + 8)
   own_slot =
       let n = next_of l in
-      let here = AnyPlaced-mid (BodyHere slot (n.was + 8)) (area_start u.old) (u.before ++ done) c (rest ++ free gap ∷ u.after) (refl, omega (arith, n.was_is)) in
+      let here = AnyPlaced-mid _ _ _ c _ (refl, omega (arith, n.was_is)) in
       (n.heap.tied slot (n.was + 8) (omega arith)).1 here
 
   mendable : Mendable u image done bytes lock owner slot rest at
@@ -144,7 +144,7 @@ module _ {gap : ℕ} {u : Lift gap} {image : List ℕ} {done : List Chunk} {byte
         held = own_slot.1;
         is_slot = is_slot;
         facts = facts;
-        beside = subst (λ (k : ℕ). IsBeside slot at k) size (slot_beside _ (front l) (carried gap c ∷ []) (others l) _ _ n.tiles tt n.there is_slot);
+        beside = rw size at (slot_beside _ (front l) (carried gap c ∷ []) (others l) _ _ n.tiles tt n.there is_slot);
         area = omega (arith, n.there);
         unwound = omega (arith, facts.inside, n.at_is, n.inside, n.most);
       }
@@ -209,8 +209,8 @@ module _ {gap : ℕ} {u : Lift gap} {image : List ℕ} {done : List Chunk} {byte
             | inr isnt ↦ slots other o isnt ∙ l.kept other o (elim out [ inl low ↦ inl low | inr beyond ↦ inr (omega (arith, beyond)) ])
           ];
           plain = subst (λ (k : ℕ). u32_at new (k + total u.before) ≡ u32_at image (k + total u.before)) m.next.starts in_front.1.0 ∙ l.plain;
-          front = words_then u.old image new (area_start u.old) u.before l.front (subst (λ (k : ℕ). SameWords image new k u.before) m.next.starts in_front.0);
-          back = words_then u.old image new (at + need (length bytes) + total rest) u.after (subst (λ (k : ℕ). SameWords u.old image k u.after) was l.back) (subst (λ (k : ℕ). SameWords image new k u.after) is behind.1);
+          front = words_then u.old image new (area_start u.old) u.before l.front (rw m.next.starts at in_front.0);
+          back = words_then u.old image new (at + need (length bytes) + total rest) u.after (rw was at l.back) (rw is at behind.1);
         }
 
 -- ---- the header that is read
@@ -254,7 +254,7 @@ mends {gap} {u} {image} {done} (movable bytes k v slot) {rest} {at} {size} {name
         table = λ mid mid_is. mended_table l mid_is;
       };
       step = λ mid new. subst (λ (n : ℕ). mid ≡ with_slot_at image at n → Reslots image mid at n → new ≡ overwritten mid n (u32_bytes (at + 8)) → Lifting u new (done ++ movable bytes k v slot ∷ []) rest (at + size)) (sym back)
-          (λ mid_is reslots new_is. subst (λ (n : ℕ). Lifting u new (done ++ movable bytes k v slot ∷ []) rest (at + n)) takes (step_mended l mid_is reslots new_is));
+          (λ mid_is reslots new_is. rw takes at (step_mended l mid_is reslots new_is));
     }
 
 pub stepped_kept : {gap : ℕ} {u : Lift gap} {image : List ℕ} {done : List Chunk} (c : Chunk) {rest : List Chunk} {at size : ℕ} {header : Header} → Lifting u image done (c ∷ rest) at → HasHeader image at header → size ≡ size_by header → ((count lock owner slot : ℕ) → header ≡ headers.Movable count lock owner slot → ⊥)

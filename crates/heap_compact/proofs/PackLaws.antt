@@ -49,7 +49,7 @@ staying_one (fixed bytes owner) e stay room = (refl, (refl, refl))
 -- it is packed, once its kind is known
 packed_as : {old new : List ℕ} {at room : ℕ} (b : IsBehindRoom old at room) (c : Chunk) {size moved room_then : ℕ} → b.chunk ≡ c → BecomesExactly old new (b.before ++ (packed_one room c ++ b.after)) → size ≡ size_of c → moved ≡ moved_one room c → room_then ≡ room_after room c → PackedOne b new size moved room_then
 packed_as {old} {new} {room} b c e becomes size_is moved_is room_is = record {
-  becomes = subst (λ (d : Chunk). BecomesExactly old new (b.before ++ (packed_one room d ++ b.after))) (sym e) becomes;
+  becomes = rw (← e) at becomes;
   size_is = size_is ∙ ap size_of (sym e);
   moved_is = moved_is ∙ ap (moved_one room) (sym e);
   room_is = room_is ∙ ap (room_after room) (sym e);
@@ -77,7 +77,7 @@ module _ {old : List ℕ} {at room : ℕ} (h : HeapAccepted old) (b : IsBehindRo
     is_free = free_header n b.chunk (behind_header found) ∙ ap free (sym e)
 
     joins : JoinFacts old b.before size b.after at room (at - room)
-    joins = join_facts b.before size b.after room (at - room) h (with_chunk (free size) is_free) b.there refl
+    joins = join_facts _ size _ room _ h (with_chunk _ is_free) b.there refl
 
     pub join_writable : IsWritableHeader (at - room) (headers.Free (room + size))
     join_writable =
@@ -94,9 +94,9 @@ module _ {old : List ℕ} {at room : ℕ} (h : HeapAccepted old) (b : IsBehindRo
 
   -- ---- one that names a slot and has no lock
 
-  module _ {header : Header} {slot size : ℕ} (found : HasHeader old at header) (goes : HeaderStays header → ⊥) (names : slot_by header ≡ Some slot) (size_is : size ≡ size_by header) where
+  module _ {header : _} {slot size : ℕ} (found : HasHeader old at header) (goes : HeaderStays header → ⊥) (names : slot_by header ≡ Some slot) (size_is : size ≡ size_by header) where
     pub loose : (bytes : List ℕ) × (owner : ℕ) × (b.chunk ≡ movable bytes 0 owner slot)
-    loose = let e = behind_header found in loose_named b.chunk (subst (λ (x : Header). HeaderStays x → ⊥) e goes) (sym (ap slot_by e) ∙ names)
+    loose = let e = behind_header found in loose_named _ (rw e at goes) (sym (ap slot_by e) ∙ names)
 
     abbrev v : Chunk
     v = movable loose.0 0 loose.1 slot
@@ -138,7 +138,7 @@ module _ {old : List ℕ} {at room : ℕ} (h : HeapAccepted old) (b : IsBehindRo
       let w : Chunk = movable l.0 0 l.1 named.0 in
       let g = gap_none none in
       let chunks = with_chunk w l.2 ∙ ap (λ (k : List Chunk). b.before ++ (k ++ w ∷ b.after)) g ∙ ap (λ (k : List Chunk). b.before ++ w ∷ (k ++ b.after)) (sym g) in
-      packed_as b w l.2 (exactly_itself h chunks) (takes found goes named.1 size_is) (sym (moved_none (size_of w) none)) (sym none)
+      packed_as b w l.2 (exactly_itself h chunks) (takes found goes named.1 size_is) (sym (moved_none _ none)) (sym none)
 
   pub packed_kept : {header : Header} {size : ℕ} → HasHeader old at header → IsNotFree header → size ≡ size_by header
       → HeaderStays header ⊎ ((HeaderStays header → ⊥) × (room ≡ 0)) → PackedOne b old size 0 0
@@ -152,7 +152,7 @@ pub room_in_front : {image : List ℕ} {at room : ℕ} → IsBehindRoom image at
 room_in_front {room} b =
     let there = b.there in (
       omega (arith, there),
-      λ some. record { before = b.before; after = b.chunk ∷ b.after; chunks = b.chunks ∙ ap (λ (g : List Chunk). b.before ++ (g ++ b.chunk ∷ b.after)) (gap_some room some); there = omega (arith, there) },
+      λ some. record { before = b.before; after = _ ∷ b.after; chunks = b.chunks ∙ ap (λ (g : List Chunk). b.before ++ (g ++ b.chunk ∷ b.after)) (gap_some room some); there = omega (arith, there) },
     )
 
 -- and then links were written
@@ -164,7 +164,7 @@ kept_linked p s =
 
 pub packing_start : {old : List ℕ} (start end : ℕ) → HeapAccepted old → PacksUpTo old old start end start 0 0
 packing_start start end h = λ run.
-    record { done = []; rest = run.mid; becomes = exactly_itself h run.chunks; packs = refl; there = omega arith; ends = run.to; moved_is = omega arith; room_is = refl }
+    record { done = []; rest = _; becomes = exactly_itself h run.chunks; packs = refl; there = omega arith; ends = run.to; moved_is = omega arith; room_is = refl }
 
 -- after a chunk that is packed: what is packed and what is left of the chunks
 record Behind {old : List ℕ} {start end : ℕ} (run : IsRun old start end) (new : List ℕ) (at moved room : ℕ) (done : List Chunk) (c : Chunk) (rest : List Chunk) (size more room_then : ℕ) : Type 0 where
@@ -189,12 +189,12 @@ module _ {old : List ℕ} {start end : ℕ} {run : IsRun old start end} {new : L
       let no_room : room_then ≡ 0 = b.room_is ∙ none in
       let same = ap (λ (k : ℕ). moved_behind k rest) no_room in
       let left : BecomesExactly old new (run.before ++ (done ++ (behind ++ (gap room_then ++ (rest ++ run.after))))) =
-      subst (λ (k : ℕ). BecomesExactly old new (run.before ++ (done ++ (behind ++ (gap k ++ (rest ++ run.after)))))) (sym no_room) (subst (λ (cs : List Chunk). BecomesExactly old new (run.before ++ (done ++ (cs ++ (rest ++ run.after))))) one b.becomes) in
+      subst (λ (k : ℕ). BecomesExactly old new (run.before ++ (done ++ (behind ++ (gap k ++ (rest ++ run.after)))))) (sym no_room) (rw one at b.becomes) in
       record {
         done = done ++ behind;
         rest = rest;
-        becomes = subst (λ (cs : List Chunk). BecomesExactly old new (run.before ++ cs)) (sym (append_assoc done behind (gap room_then ++ (rest ++ run.after)))) left;
-        packs = ap (λ (k : ℕ). (done ++ behind) ++ packed_behind k rest) no_room ∙ append_assoc done behind (packed_behind 0 rest) ∙ ap (λ (cs : List Chunk). done ++ cs) (append_assoc (gap room) (c ∷ []) (packed_behind 0 rest) ∙ sym packs) ∙ b.packs;
+        becomes = rw (← (append_assoc done behind (gap room_then ++ (rest ++ run.after)))) at left;
+        packs = ap (λ (k : ℕ). (done ++ behind) ++ packed_behind k rest) no_room ∙ append_assoc done _ (packed_behind 0 rest) ∙ ap (λ (cs : List Chunk). done ++ cs) (append_assoc (gap room) (c ∷ []) (packed_behind 0 rest) ∙ sym packs) ∙ b.packs;
         there = omega (arith, b.there, b.size_is, no_room, total-append done behind, two, gap_total room);
         ends = omega (arith, b.ends, b.size_is);
         moved_is = omega (arith, b.sum, moves, b.moved_is, none_moved, same);
@@ -208,7 +208,7 @@ module _ {old : List ℕ} {start end : ℕ} {run : IsRun old start end} {new : L
       record {
         done = done;
         rest = rest;
-        becomes = subst (λ (k : ℕ). BecomesExactly old new (run.before ++ (done ++ (gap k ++ (rest ++ run.after))))) (sym b.room_is) b.becomes;
+        becomes = rw (← b.room_is) at b.becomes;
         packs = ap (λ (k : ℕ). done ++ packed_behind k rest) b.room_is ∙ b.packs;
         there = omega (arith, b.there, b.size_is, b.room_is);
         ends = omega (arith, b.ends, b.size_is);
@@ -222,8 +222,8 @@ module _ {old : List ℕ} {start end : ℕ} {run : IsRun old start end} {new : L
       record {
         done = done ++ v ∷ [];
         rest = rest;
-        becomes = subst (λ (cs : List Chunk). BecomesExactly old new (run.before ++ cs)) (sym (append_assoc done (v ∷ []) (gap room_then ++ (rest ++ run.after)))) (subst (λ (k : ℕ). BecomesExactly old new (run.before ++ (done ++ v ∷ (gap k ++ (rest ++ run.after))))) (sym same) b.becomes);
-        packs = append_assoc done (v ∷ []) (packed_behind room_then rest) ∙ ap (λ (k : ℕ). done ++ v ∷ packed_behind k rest) same ∙ b.packs;
+        becomes = rw (← (append_assoc done (v ∷ []) (gap room_then ++ (rest ++ run.after)))) at (rw (← same) at b.becomes);
+        packs = append_assoc done _ (packed_behind room_then rest) ∙ ap (λ (k : ℕ). done ++ v ∷ packed_behind k rest) same ∙ b.packs;
         there = omega (arith, b.there, b.size_is, same, total-append done (v ∷ []));
         ends = omega (arith, b.ends, b.size_is);
         moved_is = omega (arith, b.sum, b.moved_is, rest_same);
@@ -256,7 +256,7 @@ module _ {old image : List ℕ} {start end : ℕ} {run : IsRun old start end} {a
       let one = p (next_behind c rest is) in
       let e = append_assoc run.before k.done (packed_one room c ++ (rest ++ run.after)) in
       grown c record {
-        becomes = exactly_then k.becomes (subst (λ (cs : List Chunk). BecomesExactly image new cs) e one.becomes);
+        becomes = exactly_then k.becomes (rw e at one.becomes);
         packs = ap (λ (cs : List Chunk). k.done ++ packed_behind room cs) (sym is) ∙ k.packs;
         there = k.there;
         ends = k.ends ∙ ap (λ (cs : List Chunk). at + total cs) is;
@@ -276,12 +276,12 @@ module _ {old image : List ℕ} {start end : ℕ} {run : IsRun old start end} {a
       let packs : k.done ++ gap room ≡ packed run.mid = ap (λ (cs : List Chunk). k.done ++ packed_behind room cs) (sym is) ∙ k.packs in
       let e : k.done ++ (gap room ++ run.after) ≡ packed run.mid ++ run.after = sym (append_assoc k.done (gap room) run.after) ∙ ap (λ (cs : List Chunk). cs ++ run.after) packs in
       record {
-        becomes = subst (λ (cs : List Chunk). BecomesExactly old image (run.before ++ cs)) e (subst (λ (cs : List Chunk). BecomesExactly old image (run.before ++ (k.done ++ (gap room ++ (cs ++ run.after))))) is k.becomes);
+        becomes = rw e at (rw is at k.becomes);
         moved_is = omega (arith, k.moved_is, ap (moved_behind room) is);
         room_is = ap (last_room room) (sym is) ∙ k.room_is;
       }
   all_packed (c ∷ rest) is past =
-      let least = (Spelled-size image at c (behind_spelled k.becomes.frame.accepted (next_behind c rest is))).0 in
+      let least = (Spelled-size _ at c (behind_spelled k.becomes.frame.accepted (next_behind c rest is))).0 in
       absurd (omega (arith, k.ends, ap total is, past, least))
 
 -- ---- for the calls
@@ -312,7 +312,7 @@ module _ {old image : List ℕ} {start end at moved room : ℕ} (w : PacksUpTo o
   pub packing_on : {new : List ℕ} {size more room_then : ℕ} → IsRun old start end → at < end → PacksOne image new at room size more room_then → GoesOn start end at moved size more
   packing_on run on p =
       let b = packing_next run on in
-      let least = (Spelled-size image at b.chunk (behind_spelled (w run).becomes.frame.accepted b)).0 in
+      let least = (Spelled-size _ at _ (behind_spelled (w run).becomes.frame.accepted b)).0 in
       let next = packing_more on p run in
       let few = moved_few 0 run.mid in
       record { on = omega (arith, least, (p b).size_is); within = omega (arith, next.ends); few = omega (arith, next.moved_is, few, run.to) }
@@ -349,7 +349,7 @@ compacted {old} {new} h from to p =
 pub behind_misses : {m : Memory} {at room : ℕ} → HoldsHeap m → IsBehindRoom m.bytes at room → Misses m.lents at 8
 behind_misses {m} {at} {room} h b =
     let t = total-append b.before (gap room) in
-    header_misses m (b.before ++ gap room) b.chunk b.after at h.accepted h.lent (b.chunks ∙ sym (append_assoc b.before (gap room) (b.chunk ∷ b.after))) (omega (arith, b.there, t, gap_total room))
+    header_misses m _ _ _ at h.accepted h.lent (b.chunks ∙ sym (append_assoc b.before (gap room) (b.chunk ∷ b.after))) (omega (arith, b.there, t, gap_total room))
 
 gap_loose : (room n : ℕ) → NoneStays (gap room ++ free n ∷ [])
 gap_loose zero n = tt

@@ -11,7 +11,7 @@ same_live e = cc
 
 -- a chunk without locks is loose, and a loose one has none
 pub is_loose : {image : List ℕ} (found : Found) → HeapAccepted image → IsOne image found → found.lock ≡ 0 → IsLoose image found.name.0
-is_loose found h f none = record { live = f.live; is_held = one_held _ found h f; unlocked = sym f.lock_is ∙ none }
+is_loose found h f none = record { live = f.live; is_held = one_held _ _ h f; unlocked = sym f.lock_is ∙ none }
 
 pub loose_there : {image : List ℕ} {name : ℕ} → IsLoose image name → IsSome (held image name)
 loose_there l = subst (λ (x : Option LiveChunk). IsSome x) (sym l.is_held) refl
@@ -55,7 +55,7 @@ grown_resized {old} new found count told h f unlocked fits tells grows =
 relocated_resized : {old : List ℕ} (new : List ℕ) (found : Found) {at size : ℕ} (count : ℕ) → HeapAccepted old → IsOne old found → found.lock ≡ 0 → IsSpot old at size → need count ≤ size → RelocatesFound old new found at size count → ChangedAlone old new found.name.0 count
 relocated_resized {old} new found {at} {size} count h f unlocked r fits moved =
     when_movable _ _ _ f (λ c g. Relocates old new (found.place.0 - 8) at size (with_length count c) → ChangedAlone old new found.name.0 count) (λ e. omega arith)
-    (λ bytes lock owner slot g x. changed_alone count f.live (one_held _ found h f) (sym f.lock_is ∙ unlocked)
+    (λ bytes lock owner slot g x. changed_alone _ _ (one_held _ _ h f) (sym f.lock_is ∙ unlocked)
     (relocate_changes _ new _ _ _ _ count _ _ _ _ _ h g r fits x))
     (moved f)
 
@@ -69,7 +69,7 @@ moved_resized new found count true h f unlocked has none moved = run_resized h f
 moved_resized new found count false h f unlocked has none moved = absurd (has none)
 
 pub run_not_short : {old new : List ℕ} {found : Found} {count : ℕ} → RelocatesToRun old new found count → ShortFor old found.name.0 (need count) → ⊥
-run_not_short {found} {count} r = spot_not_short_for _ found.name.0 _ _ (need count) (omega arith) r.room r.enough
+run_not_short {found} {count} r = spot_not_short_for _ _ _ _ _ (omega arith) r.room r.enough
 
 -- ---- a stretch has slid before
 
@@ -101,21 +101,21 @@ slid_alone {mid} new name h s alone =
       chunks = one.chunks;
       none_stays = one.none_stays;
       others = λ other apart none was is.
-          let still : IsSome (held mid other) = subst (λ (x : Option LiveChunk). IsSome x) (sym (alike.holds other)) was in
+          let still : IsSome (held mid other) = rw (← (alike.holds other)) at was in
           alone other apart still is ∙ one.others other none was still;
     }
 
 -- ---- in its own stretch
 
 pub opens_slides : {old : List ℕ} (new : List ℕ) {found : Found} {size : ℕ} → FitsInStretch old found size → OpensBehind old new (found.place.0 - 8) → SlidesOneStretch old new
-opens_slides {old} new {found} k o = opens_one _ new _ _ k.front k.bytes k.owner found.name.0 k.back _ k.whole k.there o
+opens_slides {old} new {found} k o = opens_one _ new _ _ _ _ _ _ _ _ k.whole k.there o
 
 -- once room is opened after the chunk it fits there
 pub fits_opened : {old : List ℕ} (new : List ℕ) {found : Found} {size : ℕ} → HeapAccepted old → IsOne old found → (k : FitsInStretch old found size) → OpensBehind old new (found.place.0 - 8) → FitsInPlace new found.name.0 size
 fits_opened new {found} h f k o live e =
     let alike = slides_alike _ _ h (opens_slides new k o) in
     let behind = opened_behind _ new _ _ k.front k.bytes k.owner found.name.0 k.back _ h k.whole k.there o in
-    let same : live ≡ f.live = same_live (sym e ∙ alike.holds found.name.0 ∙ one_held _ found h f) in
+    let same : live ≡ f.live = same_live (sym e ∙ alike.holds found.name.0 ∙ one_held _ _ h f) in
     let many : need (length live.bytes) ≡ need (length k.bytes) = ap (λ (x : LiveChunk). need (length x.bytes)) same ∙ ap need (sym f.count ∙ k.many) in
     omega (arith, k.enough)
 
@@ -130,11 +130,11 @@ pub fits_in_stretch : {image : List ℕ} (found : Found) {stretch : Stretch} {ro
 fits_in_stretch found size a r enough =
     let is = room_among_own found a r in
     let many : need found.length ≡ need (length a.bytes) = ap need a.many in
-    record { before = a.before; front = a.front; bytes = a.bytes; owner = a.owner; back = a.back; after = a.after; whole = a.is.whole; there = a.there; many = a.many; enough = omega arith }
+    record { before = a.before; front = a.front; bytes = a.bytes; owner = a.owner; back = a.back; after = _; whole = a.is.whole; there = a.there; many = a.many; enough = omega arith }
 
 pub fits_not_short : {image : List ℕ} {found : Found} {size : ℕ} → HeapAccepted image → FitsInStretch image found size → ShortFor image found.name.0 size → ⊥
 fits_not_short {found} {size} h k short =
-    let low = ((short_for_parts _ _ k.front k.bytes k.owner found.name.0 k.back _ size h k.whole).0 short).1 in
+    let low = ((short_for_parts _ _ _ _ _ _ _ _ size h k.whole).0 short).1 in
     let enough = k.enough in
     omega arith
 
@@ -143,17 +143,17 @@ pub short_own : {image : List ℕ} (found : Found) {stretch : Stretch} {room : �
 short_own found size h a r low =
     let is = room_among_own found a r in
     let many : need found.length ≡ need (length a.bytes) = ap need a.many in
-    let parts = short_for_parts _ _ a.front a.bytes a.owner found.name.0 a.back _ size h a.is.whole in
+    let parts = short_for_parts _ _ _ _ _ _ _ _ size h a.is.whole in
     (λ s. (parts.0 s).0, λ s. parts.1 (s, omega arith))
 
 -- ---- by the name that was asked for
 
 pub resized_here : {old : List ℕ} (new : List ℕ) {name : ℕ} (count : ℕ) {found : Found} → IsFound old name found → ChangedAlone old new found.name.0 count → Resized old new name count × MovesAlone old new name
 unfolding ChangedAlone
-resized_here {old} new count f r = subst (λ (n : ℕ). Resized old new n count × MovesAlone old new n) f.name_is r
+resized_here {old} new count f r = rw f.name_is at r
 
 pub resized_named : {old : List ℕ} (new : List ℕ) {name : ℕ} (count : ℕ) {found : Found} → IsFound old name found → (IsOne old found → FitsInPlace old found.name.0 (need count) → ChangedAlone old new found.name.0 count) → FitsInPlace old name (need count) → Resized old new name count × MovesAlone old new name
-resized_named {old} new count f done fits = resized_here new count f (done (one_of f) (subst (λ (n : ℕ). FitsInPlace old n (need count)) (sym f.name_is) fits))
+resized_named {old} new count f done fits = resized_here new count f (done (one_of f) (rw (← f.name_is) at fits))
 
 -- ---- what is taken and free fits into a region
 

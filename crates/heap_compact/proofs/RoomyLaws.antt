@@ -49,7 +49,7 @@ module _ {image : List ℕ} {size start here room : ℕ} (r : SeenRooms image si
       let sum = sum_by-append free_size run (f.chunk ∷ []) in
       let one = sum_by-cons free_size f.chunk [] in
       let is : more ≡ free_size f.chunk = more_is ∙ ap free_by f.header_is ∙ free_of f.chunk in
-      record { seen = seen_more image start start here taken header r.seen f e goes; room_is = omega (arith, r.room_is, sum, one, is); short = r.short }
+      record { seen = seen_more _ _ _ here _ _ r.seen f e goes; room_is = omega (arith, r.room_is, sum, one, is); short = r.short }
 
   pub rooms_closed : {taken : ℕ} {header : Header} → HasHeader image here header → taken ≡ size_by header → HeaderStays header → room < size → SeenRooms image size (here + taken) (here + taken) 0
   unfolding seen_closed
@@ -59,11 +59,11 @@ module _ {image : List ℕ} {size start here room : ℕ} (r : SeenRooms image si
       record {
         seen = seen_closed image start (here + taken) start here taken header r.seen f e stay (omega arith);
         room_is = refl;
-        short = subst (λ (cs : List Chunk). All (λ other. other < size) (rooms_of (stretches cs))) (sym (append_assoc closed run (f.chunk ∷ []))) short;
+        short = rw (← (append_assoc closed run (f.chunk ∷ []))) at short;
       }
 
   run_ends : here ≡ area_start image + total closed + total run
-  run_ends = SpelledAll-end image _ run here (SpelledAll-split image (area_start image) closed run here r.seen.spelled).1
+  run_ends = SpelledAll-end _ _ run here (SpelledAll-split _ _ _ run here r.seen.spelled).1
 
   -- how much room there is so far
   pub rooms_low : room ≤ here
@@ -81,7 +81,7 @@ module _ {image : List ℕ} {size start here room : ℕ} (r : SeenRooms image si
       mid = run;
       after = others.0;
       is = record {
-        whole = record { chunks = others.1 ∙ append_assoc closed run others.0; none_stays = r.seen.none_stays; in_front = r.seen.ends; behind = begins };
+        whole = record { chunks = others.1 ∙ append_assoc closed run _; none_stays = r.seen.none_stays; in_front = r.seen.ends; behind = begins };
         from = r.seen.from;
         to = omega (arith, run_ends, r.seen.from);
       };

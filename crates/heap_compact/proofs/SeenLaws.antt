@@ -19,7 +19,7 @@ unlocked image found f none = of_chunk f.chunk f.finds.named f.finds.chunks wher
         there = f.finds.there;
         many = f.count ∙ sym (ap (λ (x : LiveChunk). length x.bytes) named.1);
       }
-  of_chunk (fixed bytes owner) named chunks = let lock_is : 15 ≡ 0 = ap (λ (x : LiveChunk). x.lock) (fixed_live_is (found.place.0 - 8) bytes owner named) ∙ sym f.lock_is ∙ none in absurd (omega (arith, lock_is))
+  of_chunk _ named chunks = let lock_is : 15 ≡ 0 = ap (λ (x : LiveChunk). x.lock) (fixed_live_is _ _ _ named) ∙ sym f.lock_is ∙ none in absurd (omega (arith, lock_is))
 
 -- ---- chunks that stay
 
@@ -45,7 +45,7 @@ pub unlocked_there : {image : List ℕ} {at name count : ℕ} → HeapAccepted i
 unlocked_there {image} {name} h u =
     let heap = heap_in_parts _ _ h u.chunks in
     let parts = SpelledAll-split image (area_start image) u.before (movable u.bytes 0 u.owner name ∷ u.after) (length image) heap.tiles.area in
-    (subst (λ (n : ℕ). SpelledAll image (area_start image) u.before n) (sym u.there) parts.0, subst (λ (n : ℕ). Spelled image n (movable u.bytes 0 u.owner name)) (sym u.there) parts.1.0)
+    (rw (← u.there) at parts.0, rw (← u.there) at parts.1.0)
 
 pub seen_start : {image : List ℕ} {at name count start : ℕ} → HeapAccepted image → IsUnlocked image at name count → start ≡ area_start image → SeenUpTo image at start start
 seen_start h u e =
@@ -68,7 +68,7 @@ seen_more image at start here size header s f e goes =
     record {
       closed = s.closed;
       run = s.run ++ f.chunk ∷ [];
-      spelled = subst (λ (cs : List Chunk). SpelledAll image (area_start image) cs (here + size)) (append_assoc s.closed s.run (f.chunk ∷ [])) (SpelledAll-push image (area_start image) (s.closed ++ s.run) here f.chunk _ s.spelled f.spelled next);
+      spelled = rw (append_assoc s.closed s.run (f.chunk ∷ [])) at (SpelledAll-push image (area_start image) (s.closed ++ s.run) here f.chunk _ s.spelled f.spelled next);
       none_stays = (none_stays-append s.run (f.chunk ∷ [])).1 (s.none_stays, header_goes f.chunk (λ k. goes (subst HeaderStays (sym f.header_is) k)));
       ends = s.ends;
       from = s.from;
@@ -95,7 +95,7 @@ seen_closed image at later start here size header s f e stay low =
     record {
       closed = (s.closed ++ s.run) ++ f.chunk ∷ [];
       run = [];
-      spelled = subst (λ (cs : List Chunk). SpelledAll image (area_start image) cs (here + size)) (sym (append-nil ((s.closed ++ s.run) ++ f.chunk ∷ []))) all;
+      spelled = rw (← (append-nil ((s.closed ++ s.run) ++ f.chunk ∷ []))) at all;
       none_stays = tt;
       ends = ends_push (s.closed ++ s.run) f.chunk (header_stay f.chunk (subst HeaderStays f.header_is stay));
       from = last;
@@ -107,18 +107,18 @@ seen_closed image at later start here size header s f e stay low =
 
 found_back : (image : List ℕ) (at here : ℕ) (v : Chunk) {run : List Chunk} (front rest : List Chunk) → run ≡ front ++ rest → SpelledAll image at rest here → Spelled image at v → at < here → (back : List Chunk) × (run ≡ front ++ v ∷ back)
 found_back image at here v front [] e s p low = absurd (omega (arith, s, low))
-found_back image at here v front (d ∷ rest) e s p low = (rest, e ∙ ap (λ (x : Chunk). front ++ x ∷ rest) (Spelled-unique image at d v s.0 p))
+found_back image at here v front (d ∷ rest) e s p low = (rest, e ∙ ap (λ (x : Chunk). front ++ x ∷ rest) (Spelled-unique _ at d v s.0 p))
 
 pub begins_there : (image : List ℕ) (here : ℕ) (c : Chunk) (after : List Chunk) → SpelledAll image here after (length image) → Spelled image here c → IsTrue (stays_put c) → BeginsStaying after
 begins_there image here c [] s p stay = tt
-begins_there image here c (d ∷ after) s p stay = subst (λ (x : Chunk). IsTrue (stays_put x)) (Spelled-unique image here c d p s.0) stay
+begins_there image here c (d ∷ after) s p stay = rw (Spelled-unique image here c d p s.0) at stay
 
 pub nothing_after : (image : List ℕ) (here : ℕ) (after : List Chunk) → SpelledAll image here after (length image) → length image ≤ here → after ≡ []
 nothing_after image here [] s past = refl
-nothing_after image here (d ∷ after) s past = let size = Spelled-size image here d s.0 in absurd (omega (arith, size.0, size.1, past))
+nothing_after image here (d ∷ after) s past = let size = Spelled-size _ here d s.0 in absurd (omega (arith, size.0, size.1, past))
 
 pub none_there : (image : List ℕ) (here : ℕ) (after : List Chunk) → SpelledAll image here after (length image) → length image ≤ here → BeginsStaying after
-none_there image here after s past = subst BeginsStaying (sym (nothing_after image here after s past)) tt
+none_there image here after s past = subst BeginsStaying (sym (nothing_after _ here _ s past)) tt
 
 module _ {image : List ℕ} {at name count start here : ℕ} (h : HeapAccepted image) (u : IsUnlocked image at name count) (s : SeenUpTo image at start here) where
   open s use {closed, run}
@@ -131,7 +131,7 @@ module _ {image : List ℕ} {at name count start here : ℕ} (h : HeapAccepted i
       let same : size ≡ size_of f.chunk = e ∙ ap size_by f.header_is ∙ size_by-header_of f.chunk in
       let stay_c = header_stay f.chunk (subst HeaderStays f.header_is stay) in
       let t = unlocked_there h u in
-      let rest = SpelledAll-rest image (area_start image) (closed ++ run) u.before here at s.spelled t.0 low in
+      let rest = SpelledAll-rest _ _ _ _ here at s.spelled t.0 low in
       let fits = ends_before image here at f.chunk v rest.0 rest.2 f.spelled t.1 stay_c (λ k. cc) in
       seen_closed image at at start here size header s f e stay (omega (arith, fits, same))
 
@@ -163,11 +163,11 @@ module _ {image : List ℕ} {at name count start here : ℕ} (h : HeapAccepted i
   others : (after : List Chunk) × (chunks_of image ≡ (closed ++ run) ++ after) × SpelledAll image here after (length image)
   others = chunks_after _ _ (closed ++ run) here h.1.tiles s.spelled s.inside
 
-  pub seen_found : {header : Header} → HasHeader image here header → HeaderStays header → at < here → IsAmongAt image at name count (record { start = start; end = here })
+  pub seen_found : {header : _} → HasHeader image here header → HeaderStays header → at < here → IsAmongAt image at name count (record { start = start; end = here })
   seen_found f stay low =
-      around others.0 low others.1 (begins_there image here f.chunk others.0 others.2 f.spelled (header_stay f.chunk (subst HeaderStays f.header_is stay)))
+      around _ low others.1 (begins_there _ here _ _ others.2 f.spelled (header_stay _ (subst HeaderStays f.header_is stay)))
 
   pub seen_all : length image ≤ here → IsAmongAt image at name count (record { start = start; end = here })
   seen_all past =
       let size = Spelled-size image at v (unlocked_there h u).1 in
-      around others.0 (omega (arith, size.0, size.1, past)) others.1 (none_there image here others.0 others.2 past)
+      around _ (omega (arith, size.0, size.1, past)) others.1 (none_there _ here _ others.2 past)

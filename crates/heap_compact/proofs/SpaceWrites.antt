@@ -51,7 +51,7 @@ module _ {old region : Memory} {heads : List ℕ} {known : Remembered} {found : 
     pub body_within : (at n : ℕ) → at + n ≤ found.length → IsWithin region (found.place.0 + at) n
     body_within at n fits =
         let heap = viewed_heap view s.heap in
-        subst (λ (m : Memory). IsWithin m (found.place.0 + at) n) (sym view) (one_body_within old found at n heap.accepted heap.lent f other fits)
+        subst (λ (m : Memory). IsWithin m (found.place.0 + at) n) (sym view) (one_body_within old _ at n heap.accepted heap.lent f other fits)
 
 -- ---- a chunk is put into room that was found
 
@@ -59,8 +59,8 @@ module _ {old region : Memory} {heads : List ℕ} {known : Remembered} {found : 
 pub room_claimed : {old region : Memory} {taken mid new : List ℕ} {at room size : ℕ} (count : ℕ) (chunk : Chunk) → region ≡ old → size ≡ need count → size_of chunk ≡ need count
     → Becomes region.bytes taken (chunks_of region.bytes) → CutsRoom region.bytes taken at room size → Fills taken mid at (need count) chunk → Becomes mid new (chunks_of mid) → Claims old.bytes new at room chunk
 room_claimed {region} {taken} {new} {at} {room} count chunk view e is same cut fills built =
-    let makes = cut_claims _ _ _ _ room _ _ is same (subst (λ (n : ℕ). CutsRoom region.bytes taken at room n) e cut) fills in
-    subst (λ (m : Memory). Claims m.bytes new at room chunk) view (claims_same _ _ _ _ _ chunk makes built)
+    let makes = cut_claims _ _ _ _ room _ _ is same (rw e at cut) fills in
+    subst (λ (m : Memory). Claims m.bytes new at room chunk) view (claims_same _ _ _ _ _ _ makes built)
 
 -- ---- bytes at equal distances are changed
 

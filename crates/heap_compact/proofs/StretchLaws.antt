@@ -8,11 +8,11 @@ use Rattle.heap_compact.proofs.DropLaws.{gap_some, gap_none}
 -- ---- a stretch is packed
 
 abbrev pub stretch_run : {image : List ℕ} {before mid after : List Chunk} {stretch : Stretch} → StretchIs image before mid after stretch → IsRun image stretch.start stretch.end
-stretch_run {before} {mid} {after} s = record { before = before; mid = mid; after = after; chunks = s.whole.chunks; from = s.from; to = s.to }
+stretch_run {before} {mid} {after} s = record { before = before; mid = mid; after = _; chunks = s.whole.chunks; from = s.from; to = s.to }
 
 -- of a chunk that is among its own
 pub among_stretch : {image : List ℕ} {at name count : ℕ} {stretch : Stretch} → IsAmongAt image at name count stretch → IsStretch image stretch
-among_stretch {name} a = record { before = a.before; mid = a.front ++ movable a.bytes 0 a.owner name ∷ a.back; after = a.after; is = a.is }
+among_stretch {name} a = record { before = a.before; mid = a.front ++ movable a.bytes 0 a.owner name ∷ a.back; after = _; is = a.is }
 
 -- all room of chunks of which none stays is at their end
 pub loose_lives : (cs : List Chunk) → NoneStays cs → NoneStays (lives cs)
@@ -144,7 +144,7 @@ module _ {old mid : List ℕ} {at name count : ℕ} {stretch : Stretch} {room : 
   chunks_then = packed_image.exact ∙ ap (λ (cs : List Chunk). a.before ++ (cs ++ a.after)) packed_is
 
   heap_then : IsHeap mid ((a.before ++ fore) ++ v ∷ (rear ++ (gap room ++ a.after)))
-  heap_then = heap_in_parts _ _ packed_frame.accepted (chunks_then ∙ regroup_around a.before fore rear (gap room) a.after v)
+  heap_then = heap_in_parts _ _ packed_frame.accepted (chunks_then ∙ regroup_around _ fore rear _ _ v)
 
   pub starts : area_start mid ≡ area_start old
   starts = exactly_start packed_image
@@ -152,7 +152,7 @@ module _ {old mid : List ℕ} {at name count : ℕ} {stretch : Stretch} {room : 
   tied_then : IsSlot mid name × (u32_at mid name ≡ area_start mid + total (a.before ++ fore) + 8)
   tied_then =
       (heap_then.tied name (area_start mid + total (a.before ++ fore) + 8) (omega arith)).1
-      (AnyPlaced-mid (BodyHere name (area_start mid + total (a.before ++ fore) + 8)) (area_start mid) (a.before ++ fore) v (rear ++ (gap room ++ a.after)) (refl, refl))
+      (AnyPlaced-mid _ _ _ v _ (refl, refl))
 
   pub slot_then : IsSlot mid name
   slot_then = tied_then.0
@@ -211,7 +211,7 @@ module _ {old mid : List ℕ} {at name count : ℕ} {stretch : Stretch} {room : 
 
   whole_opened : (new : List ℕ) → BecomesExactly old new (a.before ++ (opened a.front v a.back ++ a.after)) → OpensRoom new
   whole_opened new b = record {
-    opened_behind = λ before front bytes owner slot back after whole there. subst (λ (cs : List Chunk). Becomes old new cs) (parts before front bytes owner slot back after whole there) (exactly_becomes b);
+    opened_behind = λ before front bytes owner slot back after whole there. rw (parts before front bytes owner slot back after whole there) at (exactly_becomes b);
     exact = λ before front bytes owner slot back after whole there. b.exact ∙ parts before front bytes owner slot back after whole there;
     frame = b.frame;
     plain = b.plain;
@@ -219,19 +219,19 @@ module _ {old mid : List ℕ} {at name count : ℕ} {stretch : Stretch} {room : 
     parts : (before front : List Chunk) (bytes : List ℕ) (owner slot : ℕ) (back after : List Chunk) → WholeStretch old before (front ++ movable bytes 0 owner slot ∷ back) after → at ≡ area_start old + total before + total front
         → a.before ++ (opened a.front v a.back ++ a.after) ≡ before ++ (opened front (movable bytes 0 owner slot) back ++ after)
     parts before front bytes owner slot back after whole there =
-        let alike = one_stretch _ _ front (movable bytes 0 owner slot) back _ _ a.front v a.back _ _ h whole there a.is.whole a.there in
-        opened_alike (movable bytes 0 owner slot) back v a.back alike.in_front alike.first_part alike.rest alike.behind
+        let alike = one_stretch _ _ _ _ back _ _ _ v _ _ _ h whole there a.is.whole a.there in
+        opened_alike _ back v _ alike.in_front alike.first_part alike.rest alike.behind
 
   pub opened_some : (new : List ℕ) → 0 < room → BecomesExactly mid new ((a.before ++ (fore ++ v ∷ [])) ++ free room ∷ (rear ++ a.after)) → OpensRoom new
   opened_some new some b =
       let g : free room ∷ [] ≡ gap (room_of (a.front ++ a.back)) = sym (gap_some room some) ∙ ap gap room_is in
       let e : (a.before ++ (fore ++ v ∷ [])) ++ free room ∷ (rear ++ a.after) ≡ a.before ++ (opened a.front v a.back ++ a.after) =
-      regroup_open a.before fore rear a.after v (free room) ∙ ap (λ (cs : List Chunk). a.before ++ ((fore ++ v ∷ (cs ++ rear)) ++ a.after)) g in
-      whole_opened new (exactly_then packed_image (subst (λ (cs : List Chunk). BecomesExactly mid new cs) e b))
+      regroup_open _ fore rear _ v _ ∙ ap (λ (cs : List Chunk). a.before ++ ((fore ++ v ∷ (cs ++ rear)) ++ a.after)) g in
+      whole_opened new (exactly_then packed_image (rw e at b))
 
   pub opened_none : room ≡ 0 → OpensRoom mid
   opened_none none =
       let g : [] ≡ gap (room_of (a.front ++ a.back)) = sym (gap_none (sym room_is ∙ none)) in
       let e : packed (a.front ++ v ∷ a.back) ≡ opened a.front v a.back =
       packed_is ∙ ap (λ (cs : List Chunk). (fore ++ v ∷ rear) ++ cs) (gap_none none) ∙ append-nil (fore ++ v ∷ rear) ∙ ap (λ (cs : List Chunk). fore ++ v ∷ (cs ++ rear)) g in
-      whole_opened mid (subst (λ (cs : List Chunk). BecomesExactly old mid (a.before ++ (cs ++ a.after))) e packed_image)
+      whole_opened mid (rw e at packed_image)

@@ -19,13 +19,13 @@ record Next (image : List ℕ) (mid : List Chunk) (start at room : ℕ) : Type 0
 next_of : (image : List ℕ) {mid : List Chunk} {start at room : ℕ} → SpelledAll image start mid (start + total mid) → start + total mid ≤ length image → at < start + total mid → Summed mid start at room → Next image mid start at room
 next_of image {mid} {start} {at} {room} s inside low w = by_rest w.rest refl where
   split : (rest : List Chunk) → w.rest ≡ rest → SpelledAll image at rest (start + total mid)
-  split rest e = subst (λ (n : ℕ). SpelledAll image n rest (start + total mid)) (sym w.there) (SpelledAll-split image start w.front rest (start + total mid) (subst (λ (cs : List Chunk). SpelledAll image start cs (start + total mid)) (w.parts ∙ ap (λ (cs : List Chunk). w.front ++ cs) e) s)).1
+  split rest e = subst (λ (n : ℕ). SpelledAll image n rest (start + total mid)) (sym w.there) (SpelledAll-split _ _ _ rest _ (subst (λ (cs : List Chunk). SpelledAll image start cs (start + total mid)) (w.parts ∙ ap (λ (cs : List Chunk). w.front ++ cs) e) s)).1
 
   by_rest : (rest : List Chunk) → w.rest ≡ rest → Next image mid start at room
   by_rest [] e = absurd (let ends = split [] e in omega arith)
   by_rest (c ∷ later) e =
       let here = (split (c ∷ later) e).0 in
-      record { summed = w; chunk = c; later = later; rest_is = e; spelled = here; inside = (Spelled-size image at c here).1 }
+      record { summed = w; chunk = c; later = later; rest_is = e; spelled = here; inside = (Spelled-size _ at c here).1 }
 
 module _ {image : List ℕ} {stretch : Stretch} {at room : ℕ} (h : HeapAccepted image) (w : SumsUpTo image stretch at room) (low : at < stretch.end) where
   next_at : {before mid after : List Chunk} → StretchIs image before mid after stretch → Next image mid stretch.start at room

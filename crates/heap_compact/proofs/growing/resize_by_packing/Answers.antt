@@ -5,10 +5,10 @@ use Rattle.heap_compact.proofs.ResizedLaws.{is_loose, loose_slid, slid_then, sli
 use Rattle.heap_compact.proofs.growing.resize_by_packing.Goals as goal
 
 pub returns-in-None-clause-short : goal.returns-in-None-clause-short
-returns-in-None-clause-short c = let big = c.in-None.ensures in short_for_beyond _ c.args.found.name.0 (need c.args.count) c.holds.ensures.accepted (omega arith)
+returns-in-None-clause-short c = let big = c.in-None.ensures in short_for_beyond _ _ _ c.holds.ensures.accepted (omega arith)
 
 pub size_of_body-requires : goal.size_of_body-requires
-size_of_body-requires c = let fits = own_fits c.args.found c.holds.ensures.accepted c.requires.found in omega arith
+size_of_body-requires c = let fits = own_fits _ c.holds.ensures.accepted c.requires.found in omega arith
 
 pub overflow_add-size_of_body : goal.overflow_add-size_of_body
 overflow_add-size_of_body c =
@@ -22,7 +22,7 @@ grow_in_stretch-requires-clause-fits c =
     let same = c.in-Some.ensures.1 in
     let own = c.size_of_body.ensures in
     let reaches = c.if-size_of_body-room_of.true in
-    fits_in_stretch c.args.found (need c.args.count) c.stretch_around-stretch.ensures.around c.room_of.ensures (omega arith)
+    fits_in_stretch _ _ c.stretch_around-stretch.ensures.around c.room_of.ensures (omega arith)
 
 pub returns-then-size_of_body-room_of-clause-not_short : goal.returns-then-size_of_body-room_of-clause-not_short
 returns-then-size_of_body-room_of-clause-not_short c =
@@ -34,11 +34,11 @@ returns-then-size_of_body-room_of-clause-not_short c =
 
 pub relocate_named-requires-clause-loose : goal.relocate_named-requires-clause-loose
 relocate_named-requires-clause-loose c =
-    loose_slid c.holds.ensures.accepted c.in-Some-room_by_packing.ensures.slides (is_loose c.args.found c.holds.ensures.accepted c.requires.found c.requires.unlocked)
+    loose_slid c.holds.ensures.accepted c.in-Some-room_by_packing.ensures.slides (is_loose _ c.holds.ensures.accepted c.requires.found c.requires.unlocked)
 
 pub returns-in-Some-room_by_packing-clause-resized : goal.returns-in-Some-room_by_packing-clause-resized
 returns-in-Some-room_by_packing-clause-resized c =
-    slid_then c.relocate_named.new.space.bytes c.args.found.name.0 c.args.count c.holds.ensures.accepted c.in-Some-room_by_packing.ensures.slides c.relocate_named.ensures.resized
+    slid_then _ _ _ c.holds.ensures.accepted c.in-Some-room_by_packing.ensures.slides c.relocate_named.ensures.resized
 
 pub returns-in-Some-room_by_packing-clause-not_short : goal.returns-in-Some-room_by_packing-clause-not_short
 returns-in-Some-room_by_packing-clause-not_short c short =
@@ -46,7 +46,7 @@ returns-in-Some-room_by_packing-clause-not_short c short =
     let own = c.size_of_body.ensures in
     let less = c.if-size_of_body-room_of.false in
     c.in-Some-room_by_packing.ensures.not_short
-    (subst (λ (n : ℕ). Short c.args.space.now.bytes n) (sym same) ((short_own c.args.found (need c.args.count) c.holds.ensures.accepted c.stretch_around-stretch.ensures.around c.room_of.ensures (omega arith)).0 short))
+    (rw (← same) at ((short_own c.args.found (need c.args.count) c.holds.ensures.accepted c.stretch_around-stretch.ensures.around c.room_of.ensures (omega arith)).0 short))
 
 pub returns-in-None-room_by_packing-clause-short : goal.returns-in-None-room_by_packing-clause-short
 returns-in-None-room_by_packing-clause-short c =
@@ -61,15 +61,15 @@ returns-in-None-clause-one_stretch c = itself_alone c.args.space.now.bytes c.arg
 
 pub returns-in-Some-room_by_packing-clause-one_stretch : goal.returns-in-Some-room_by_packing-clause-one_stretch
 returns-in-Some-room_by_packing-clause-one_stretch c =
-    slid_alone c.relocate_named.new.space.bytes c.args.found.name.0 c.holds.ensures.accepted c.in-Some-room_by_packing.ensures.slides c.relocate_named.ensures.alone
+    slid_alone _ _ c.holds.ensures.accepted c.in-Some-room_by_packing.ensures.slides c.relocate_named.ensures.alone
 
 pub returns-in-None-room_by_packing-clause-one_stretch : goal.returns-in-None-room_by_packing-clause-one_stretch
 returns-in-None-room_by_packing-clause-one_stretch c =
-    subst (λ (m : Memory). MovesOneStretchAnd c.args.space.now.bytes m.bytes c.args.found.name.0) (sym c.in-None-room_by_packing.ensures.refused) (itself_alone c.args.space.now.bytes c.args.found.name.0)
+    subst (λ (m : Memory). MovesOneStretchAnd c.args.space.now.bytes m.bytes c.args.found.name.0) (sym c.in-None-room_by_packing.ensures.refused) (itself_alone _ _)
 
 pub relocate_named-requires-clause-has_run : goal.relocate_named-requires-clause-has_run
 relocate_named-requires-clause-has_run c =
     let same = c.in-Some.ensures.1 in
     let enough = c.in-Some-room_by_packing.ensures.enough in
     let room = c.in-Some-room_by_packing.field-0 in
-    spot_is_run _ _ _ (need c.args.count) (room_spot _ _ _ c.in-Some-room_by_packing.ensures.room) (omega arith)
+    spot_is_run _ _ _ _ (room_spot _ _ _ c.in-Some-room_by_packing.ensures.room) (omega arith)

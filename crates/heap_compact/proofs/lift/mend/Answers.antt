@@ -15,7 +15,7 @@ mend_one-at-requires c =
       carried = walk_next (walk_state i.0 c.requires.carried) (omega arith);
       table = walk_table c.loop-at.region i.0 c.requires.carried i.2 c.requires.table;
       misses = walk_misses c.loop-at.region.lents i.0 c.requires.carried (omega arith)
-          (subst (λ (x : List Lent). Misses x c.args.start (c.args.end - c.args.start)) (sym i.2) c.requires.misses);
+          (rw (← i.2) at c.requires.misses);
     }
 
 pub overflow_add-at : goal.overflow_add-at

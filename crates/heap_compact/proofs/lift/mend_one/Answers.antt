@@ -25,7 +25,7 @@ pub set-requires : goal.set-requires
 set-requires c =
     let m = mends _ c.requires.carried.lifting c.at_with_size-header.ensures.header c.at_with_size-header.ensures.size c.in-Movable.is in
     let t = m.can.table _ (same_bytes c.put_slot.ensures.after) in
-    record { slot = t.1; within = slot_again_within c.put_slot.new.region c.requires.table m.can.is_slot (same_lents c.put_slot.ensures.after) t.0 t.1 }
+    record { slot = t.1; within = slot_again_within _ c.requires.table m.can.is_slot (same_lents c.put_slot.ensures.after) t.0 t.1 }
 
 pub returns-in-Movable-clause-mended : goal.returns-in-Movable-clause-mended
 returns-in-Movable-clause-mended c = λ lift done chunk rest l.

@@ -28,7 +28,7 @@ pack-room-requires-clause-run c = stretch_run c.requires.among.is
 pub word_of-place-requires : goal.word_of-place-requires
 word_of-place-requires c =
     let p = packed (goal.at.word_of-place-requires c).After-pack-room in
-    record { table = table_within c.pack-room.new.region (packed_frame p).accepted c.pack-room.ensures.heap.lent; slot = slot_then p }
+    record { table = table_within _ (packed_frame p).accepted c.pack-room.ensures.heap.lent; slot = slot_then p }
 
 pub overflow_sub-behind : goal.overflow_sub-behind
 overflow_sub-behind c =

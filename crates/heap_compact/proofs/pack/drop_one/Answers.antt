@@ -13,7 +13,7 @@ pub slide_down-requires : goal.slide_down-requires
 slide_down-requires c =
     let f = facts (goal.at.slide_down-requires c).Start c.requires.drops in
     let many : c.args.room + c.args.size ≡ c.args.at - (c.args.at - c.args.room) + c.args.size = omega (arith, f.at_is) in
-    record { down = omega arith; within = subst (λ (n : ℕ). IsWithin c.args.region.now (c.args.at - c.args.room) n) many (dropped_within c.requires.heap c.requires.drops) }
+    record { down = omega arith; within = rw many at (dropped_within c.requires.heap c.requires.drops) }
 
 pub put_slot-requires : goal.put_slot-requires
 put_slot-requires c =

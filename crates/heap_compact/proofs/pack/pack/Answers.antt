@@ -6,7 +6,7 @@ use Rattle.heap_compact.proofs.MemoryLaws.{same_slid}
 use Rattle.heap_compact.proofs.pack.pack.Goals as goal
 
 pub loop-at-init : goal.loop-at-init
-loop-at-init c = (packing_start c.args.start c.args.end c.requires.heap.accepted, omega arith, subst (λ (heads : List ℕ). AreLists (Before (c.args.start - 0)) c.args.region.now.bytes heads) (sym c.empty.ensures) (new_lists (Before (c.args.start - 0)) c.args.region.now.bytes), c.requires.heap, refl)
+loop-at-init c = (packing_start _ _ c.requires.heap.accepted, omega arith, rw (← c.empty.ensures) at (new_lists (Before (c.args.start - 0)) c.args.region.now.bytes), c.requires.heap, refl)
 
 pub pack_one-step-requires-clause-behind : goal.pack_one-step-requires-clause-behind
 pack_one-step-requires-clause-behind c = packing_next c.loop-at.invariant.0 c.requires.run (omega arith)

@@ -29,7 +29,7 @@ returns-in-Free-clause-packed c = λ b.
 
 pub returns-in-Free-clause-lists : goal.returns-in-Free-clause-lists
 returns-in-Free-clause-lists c =
-    kept_lists _ _ _ (c.args.at - c.args.room) (c.args.at + c.at_with_size-header.result.1 - (c.args.room + c.at_with_size-header.result.1)) (omega arith)
+    kept_lists _ _ _ _ _ (omega arith)
     (free_keeps c.requires.heap.accepted c.requires.behind
     (rw c.in-Free.is at c.at_with_size-header.ensures.header) (c.at_with_size-header.ensures.size ∙ ap size_by c.in-Free.is)
     (same_bytes c.write.ensures.after) c.write.ensures.spelled) c.requires.lists
@@ -57,13 +57,13 @@ returns-then-stays-clause-packed c = λ b.
 
 pub returns-then-stays-clause-lists : goal.returns-then-stays-clause-lists
 returns-then-stays-clause-lists c =
-    lists_weaker _ (Before (c.args.at + c.at_with_size-header.result.1 - 0)) _ _ (λ x b before. omega arith) c.push_room.ensures.lists
+    lists_weaker _ _ _ _ (λ x b before. omega arith) c.push_room.ensures.lists
 
 -- ---- one that goes down
 
 pub unwrap-slot-requires : goal.unwrap-slot-requires
 unwrap-slot-requires c =
-    rw c.slot_of.ensures (slot_there c.at_with_size-header.result.0 c.in_default.not-Free (λ stay. let is = c.stays.ensures.1 stay in let isnt = c.if-stays.false in cc))
+    rw c.slot_of.ensures (slot_there _ c.in_default.not-Free (λ stay. let is = c.stays.ensures.1 stay in let isnt = c.if-stays.false in cc))
 
 pub drop_one-requires-clause-drops : goal.drop_one-requires-clause-drops
 drop_one-requires-clause-drops c =
@@ -77,4 +77,4 @@ returns-clause-packed c = λ b.
 
 pub returns-clause-lists : goal.returns-clause-lists
 returns-clause-lists c =
-    kept_lists _ _ _ (c.args.at - c.args.room) (c.args.at + c.at_with_size-header.result.1 - c.args.room) (omega arith) c.drop_one.ensures.keeps c.requires.lists
+    kept_lists _ _ _ _ _ (omega arith) c.drop_one.ensures.keeps c.requires.lists

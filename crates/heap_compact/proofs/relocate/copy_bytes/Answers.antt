@@ -6,7 +6,7 @@ use Rattle.heap_compact.proofs.relocate.copy_bytes.Goals.{After-slide}
 use Rattle.heap_compact.proofs.relocate.copy_bytes.Goals as goal
 
 copied : (c : After-slide) (f : IsOne c.args.region.now.bytes c.args.from) → CopiedTo c.args.region.now.bytes c.slide.new.self.bytes c.args.to (take c.args.to.length f.live.bytes)
-copied c f = copied_there c.args.from c.args.to c.requires.heap.accepted f c.requires.to c.min-count.ensures c.slide.ensures.bytes
+copied c f = copied_there _ _ c.requires.heap.accepted f c.requires.to c.min-count.ensures c.slide.ensures.bytes
 
 pub slide-requires : goal.slide-requires
 slide-requires c = record {

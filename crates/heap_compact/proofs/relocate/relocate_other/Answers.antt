@@ -7,7 +7,7 @@ use Rattle.heap_compact.proofs.relocate.relocate_other.Goals as goal
 -- the stand-in has another name than the chunk
 apart : (c : After-stand_in_at-there) → c.args.found.name.0 ≢ c.stand_in_at-there.result.name.0
 apart c e =
-    stand_apart c.args.count c.args.found c.requires.heap.accepted c.requires.room c.requires.enough c.requires.found
+    stand_apart _ _ c.requires.heap.accepted c.requires.room c.requires.enough c.requires.found
     (e ∙ ap (λ (x : Found). x.name.0) c.stand_in_at-there.ensures.is)
 
 -- neither of them is lent
@@ -64,13 +64,13 @@ take_name-requires c =
 
 pub returns-clause-moved : goal.returns-clause-moved
 returns-clause-moved c f =
-    relocated_found _ _ c.release_listed.new.region.bytes c.take_name.new.region.bytes _ c.args.count c.requires.heap.accepted f c.requires.unlocked
+    relocated_found _ _ _ _ _ _ c.requires.heap.accepted f c.requires.unlocked
     c.requires.room c.requires.enough c.stand_in_at-there.ensures.is c.stand_in_at-there.ensures.made c.stand_in_at-there.ensures.others c.copy_bytes.ensures.copied c.release_listed.ensures.gone c.take_name.ensures.made
 
 pub returns-clause-plain : goal.returns-clause-plain
 returns-clause-plain c =
-    plain_then c.args.region.now.bytes c.release_listed.new.region.bytes c.take_name.new.region.bytes
-    (plain_then c.args.region.now.bytes c.copy_bytes.new.region.bytes c.release_listed.new.region.bytes (plain_then c.args.region.now.bytes c.stand_in_at-there.new.region.bytes c.copy_bytes.new.region.bytes c.stand_in_at-there.ensures.plain c.copy_bytes.ensures.plain) c.release_listed.ensures.plain) c.take_name.ensures.plain
+    plain_then _ _ _
+    (plain_then _ _ _ (plain_then _ _ _ c.stand_in_at-there.ensures.plain c.copy_bytes.ensures.plain) c.release_listed.ensures.plain) c.take_name.ensures.plain
 
 pub returns-clause-frame : goal.returns-clause-frame
 returns-clause-frame c = (returns-clause-moved c c.requires.found c.requires.room).frame

@@ -8,7 +8,7 @@ use Rattle.heap_compact.proofs.resize.resize_at.Goals as goal
 
 resized : (c : After-write) (r : RunBehind c.args.region.now.bytes c.args.found c.args.behind) → WasResized c.args.region.now.bytes c.write.new.region.bytes c.args.found c.args.count c.args.behind r
 resized c r =
-    resized_by _ _ c.write_rest.new.region.bytes _ _ c.args.count _ _ _ _ _ c.requires.heap.accepted r c.requires.fits
+    resized_by _ _ _ _ _ _ _ _ _ _ _ c.requires.heap.accepted r c.requires.fits
     c.size_of_body-size.ensures c.size_of_body.ensures c.saturating_sub-gained.ensures c.header_with.ensures
     (same_bytes c.fill.ensures.after) c.write_rest.ensures.wrote (same_bytes c.write.ensures.after) c.write.ensures.spelled
 
@@ -65,7 +65,7 @@ write-requires c =
       misses = within_misses _ _ (regrown_within c.requires.heap c.requires.behind c.requires.other)
           (same_lents c.write_rest.ensures.rest ∙ same_lents c.fill.ensures.after) (omega arith) (omega arith);
       small = omega arith;
-      writable = subst (λ h. IsWritableHeader (c.args.found.place.0 - 8) h) (sym c.header_with.ensures) w.0;
+      writable = rw (← c.header_with.ensures) at w.0;
     }
 
 pub returns : goal.returns

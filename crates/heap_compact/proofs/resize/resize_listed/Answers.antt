@@ -40,10 +40,10 @@ returns-then-left-gt0 c =
     let size = c.size_of_body-then-left-gt0.ensures in let left = k.left in let some = c.if-left-gt0.true in
     let lists = resized_lists _ _ _ _ _ _ c.size_of_body.ensures u.same.frame.accepted (alike_behind _ _ _ _ u.same c.requires.behind) k.keeps u.lists in
     record {
-      resized = alike_resizes _ _ _ _ c.args.count _ u.same (resizes_links _ _ _ _ c.args.count _ _ _ k.resized p.pushed.links);
-      lists = regrown_lists _ _ _ _ (c.args.found.place.0 - 8) (need c.args.found.length + c.args.behind) c.size_of_body-then-left-gt0.result (omega arith) (omega arith) lists p.pushed;
-      plain = plain_then c.args.region.now.bytes c.unlink_run.new.region.bytes c.push.new.region.bytes u.same.plain
-          (plain_then c.unlink_run.new.region.bytes c.resize_at-left.new.region.bytes c.push.new.region.bytes k.plain (links_plain _ _ _ _ p.pushed.links));
+      resized = alike_resizes _ _ _ _ _ _ u.same (resizes_links _ _ _ _ _ _ _ _ k.resized p.pushed.links);
+      lists = regrown_lists _ _ _ _ _ _ _ (omega arith) (omega arith) lists p.pushed;
+      plain = plain_then _ _ _ u.same.plain
+          (plain_then _ _ _ k.plain (links_plain _ _ _ _ p.pushed.links));
       rest = search rules;
       heap = p.heap;
     }
@@ -54,8 +54,8 @@ returns-else-left-gt0 c =
     let lists = resized_lists _ _ _ _ _ _ c.size_of_body.ensures u.same.frame.accepted (alike_behind _ _ _ _ u.same c.requires.behind) k.keeps u.lists in
     record {
       resized = alike_resizes _ _ _ _ c.args.count _ u.same k.resized;
-      lists = regrown_all _ _ (c.args.found.place.0 - 8) (need c.args.found.length + c.args.behind) lists;
-      plain = plain_then c.args.region.now.bytes c.unlink_run.new.region.bytes c.resize_at-left.new.region.bytes u.same.plain k.plain;
+      lists = regrown_all _ _ _ _ lists;
+      plain = plain_then _ _ _ u.same.plain k.plain;
       rest = search rules;
       heap = k.heap;
     }

@@ -33,7 +33,7 @@ loop-here-preserved c = elim c.if-stays.branch [
       c.at_with_size-header.ensures.header c.at_with_size-header.ensures.size (c.stays.ensures.0 w.if-stays.true) (omega (arith, stop)))
   | else-stays w ↦
       subst (λ n. SeenUpTo c.args.region.now.bytes (c.args.found.place.0 - 8) n (c.loop-here.here + c.at_with_size-header.result.1)) (sym w.start-is)
-      (seen_more c.args.region.now.bytes (c.args.found.place.0 - 8) c.loop-here.start c.loop-here.here c.at_with_size-header.result.1 c.at_with_size-header.result.0 c.loop-here.invariant c.at_with_size-header.ensures.header c.at_with_size-header.ensures.size (λ stay. let is = c.stays.ensures.1 stay in let isnt = w.if-stays.false in cc))
+      (seen_more _ _ _ _ _ _ c.loop-here.invariant c.at_with_size-header.ensures.header c.at_with_size-header.ensures.size (λ stay. let is = c.stays.ensures.1 stay in let isnt = w.if-stays.false in cc))
 ]
 
 pub returns : goal.returns

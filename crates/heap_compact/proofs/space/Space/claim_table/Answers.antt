@@ -9,7 +9,7 @@ pub move_to_last-start-requires-clause-tiled : goal.move_to_last-start-requires-
 move_to_last-start-requires-clause-tiled c = (c.take.ensures.heap.accepted.0, c.take.ensures.heap.accepted.1.tiles)
 
 pub move_to_last-start-requires-clause-knows : goal.move_to_last-start-requires-clause-knows
-move_to_last-start-requires-clause-knows c = tables_kept c.self.inside.tables c.take.ensures.same.frame c.self.invariant.tables
+move_to_last-start-requires-clause-knows c = tables_kept _ c.take.ensures.same.frame c.self.invariant.tables
 
 put : (c : After-build_unless_packed) → PutsTable c.args.self.now.bytes c.build_unless_packed.new.region.bytes (c.args.room.at + 8)
 put c =
@@ -36,7 +36,7 @@ invariant_of-self c = record {
   heap = c.build_unless_packed.ensures.heap;
   lists = c.build_unless_packed.ensures.lists;
   tables = tables_gained c.move_to_last-start.new.self _
-      (puts_before c.take.new.region.bytes c.claim_table_at.new.region.bytes c.build_unless_packed.new.region.bytes (c.args.room.at + 8) c.claim_table_at.ensures.made c.build_unless_packed.ensures.same).gains
+      (puts_before _ _ _ _ c.claim_table_at.ensures.made c.build_unless_packed.ensures.same).gains
       c.move_to_last-start.ensures.knows c.remember.ensures;
 }
 

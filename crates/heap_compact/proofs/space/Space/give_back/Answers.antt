@@ -8,8 +8,8 @@ use Rattle.heap_compact.proofs.space.Space.give_back.Goals as goal
 gone : (c : After-release_listed) → Alters c.args.self.now.bytes c.release_listed.new.region.bytes (c.args.found.place.0 - 8) freed
 gone c =
     subst (λ (m : Memory). Alters m.bytes c.release_listed.new.region.bytes (c.args.found.place.0 - 8) freed) c.self.view_is
-    (then_freed c.release_listed.new.region.bytes c.args.found c.self.invariant.heap.accepted c.build.ensures.same
-    (subst (λ (m : Memory). IsOne m.bytes c.args.found) (sym c.self.view_is) c.requires.found) c.release_listed.ensures.gone)
+    (then_freed _ _ c.self.invariant.heap.accepted c.build.ensures.same
+    (rw (← c.self.view_is) at c.requires.found) c.release_listed.ensures.gone)
 
 pub release_listed-requires-clause-found : goal.release_listed-requires-clause-found
 release_listed-requires-clause-found c =
@@ -25,7 +25,7 @@ returns-clause-gone c = gone (goal.at.returns-clause-gone c).After-release_liste
 pub returns-clause-plain : goal.returns-clause-plain
 returns-clause-plain c =
     subst (λ (m : Memory). WritesPlain m.bytes c.release_listed.new.region.bytes) c.self.view_is
-    (plain_then c.self.inside.region.bytes c.build.new.region.bytes c.release_listed.new.region.bytes c.build.ensures.plain c.release_listed.ensures.plain)
+    (plain_then _ _ _ c.build.ensures.plain c.release_listed.ensures.plain)
 
 pub invariant_of-self : goal.invariant_of-self
 invariant_of-self c =

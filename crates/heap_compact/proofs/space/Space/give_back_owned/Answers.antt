@@ -5,7 +5,7 @@ use Rattle.heap_compact.proofs.KeptLaws.{kept_space}
 use Rattle.heap_compact.proofs.space.Space.give_back_owned.Goals as goal
 
 pub release_owned-count-requires-clause-none_lent : goal.release_owned-count-requires-clause-none_lent
-release_owned-count-requires-clause-none_lent c = subst (λ (m : Memory). LendsNoneOf m c.args.owner) (sym c.self.view_is) c.requires.none_lent
+release_owned-count-requires-clause-none_lent c = rw (← c.self.view_is) at c.requires.none_lent
 
 pub returns-clause-gone : goal.returns-clause-gone
 returns-clause-gone c =
@@ -15,7 +15,7 @@ returns-clause-gone c =
 pub returns-clause-plain : goal.returns-clause-plain
 returns-clause-plain c =
     subst (λ (m : Memory). WritesPlain m.bytes c.gather.new.region.bytes) c.self.view_is
-    (plain_then c.self.inside.region.bytes c.release_owned-count.new.region.bytes c.gather.new.region.bytes c.release_owned-count.ensures.plain c.gather.ensures.plain)
+    (plain_then _ _ _ c.release_owned-count.ensures.plain c.gather.ensures.plain)
 
 pub invariant_of-self : goal.invariant_of-self
 invariant_of-self c =

@@ -10,8 +10,8 @@ lend-requires c =
     let start : c.args.found.place.0 + 0 ≡ c.args.found.place.0 = omega arith in
     record {
       within = rw start at (body_within c.self.view_is c.self.invariant c.requires.found c.requires.other 0 c.args.found.length (omega arith));
-      begins = subst (λ (m : Memory). NoneBegins c.args.found.place.0 m.lents) (sym c.self.view_is) c.requires.other;
-      place = found_markable _ c.args.found (viewed_heap c.self.view_is c.self.invariant.heap).accepted c.requires.found;
+      begins = rw (← c.self.view_is) at c.requires.other;
+      place = found_markable _ _ (viewed_heap c.self.view_is c.self.invariant.heap).accepted c.requires.found;
     }
 
 -- a lent body is zeros

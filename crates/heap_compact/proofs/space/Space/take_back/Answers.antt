@@ -7,8 +7,8 @@ use Rattle.heap_compact.proofs.space.Space.take_back.Goals as goal
 
 pub take_back-requires : goal.take_back-requires
 take_back-requires c = record {
-  out = subst (λ (m : Memory). IsOut m.lents c.args.found.place.0 c.args.part) (sym c.self.view_is) c.requires.out;
-  place = (found_markable _ c.args.found (viewed_heap c.self.view_is c.self.invariant.heap).accepted c.requires.found).1;
+  out = rw (← c.self.view_is) at c.requires.out;
+  place = (found_markable _ _ (viewed_heap c.self.view_is c.self.invariant.heap).accepted c.requires.found).1;
 }
 
 written : (c : After-take_back) → BodyWritten c.args.self.now.bytes c.take_back.new.self.bytes c.self.inside.lists c.self.inside.tables c.args.found 0 c.args.part.bytes
