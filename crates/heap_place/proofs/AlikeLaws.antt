@@ -60,7 +60,7 @@ alike_resizes old mid new found count behind s x r =
 -- ---- a chunk that is taken out of its list
 
 pub chunk_of_class : {image : List ℕ} {class at size : ℕ} → HeapAccepted image → IsFreeChunk image at size → IsOfClass class size → IsFreeOf image class at
-chunk_of_class {image} {class} {at} {size} h f of_class =
+chunk_of_class {image} {at} {size} h f of_class =
     record {
       begins = begins_there f;
       of_class = rw (← (free_there image at size h f).size_field) at of_class;
@@ -69,7 +69,7 @@ chunk_of_class {image} {class} {at} {size} h f of_class =
 
 -- what is not that chunk lies outside of it
 pub taken_outside : {old new heads : List ℕ} {at size : ℕ} → SameChunks old new → IsFreeChunk old at size → AreLists (ButAt at) new heads → AreLists (Outside at size) new heads
-taken_outside {new} {heads} {at} {size} s f lists =
+taken_outside {new} {size} s f lists =
     let g = alike_chunk s f in
     lists_weaker _ _ new _ (λ x b apart. others_outside _ size _ x s.frame.accepted g.chunks g.there b apart) lists
 
@@ -84,4 +84,4 @@ linked_past {before} {word} h lists below leads f some word_is small is =
 
 -- nothing leads to it
 pub linked_nowhere : {image heads : List ℕ} {class before at : ℕ} → HasLists image heads → class < class_count → LeadsTo image heads class before at → IsFreeOf image class at → before ≡ 0 → AreLists (ButAt at) image heads
-linked_nowhere {image} {heads} {class} {at} lists below leads f none = not_listed _ _ _ at lists below (rw none at leads.looking) f.of_class
+linked_nowhere {at} lists below leads f none = not_listed _ _ _ at lists below (rw none at leads.looking) f.of_class

@@ -24,7 +24,7 @@ relocks {old} {new} {name} {at} {lock} {found} {live} (movable bytes count holde
     let s = finds_spelled old name live (movable bytes count holder slot) at h f in
     let same : found.owner ≡ holder = k.owner_is ∙ same_owner (sym f.named.1) in
     movable_relabelled old new name at live _ _ _ _ slot lock _ h f (λ directory none. none) w (re bytes count holder slot (rw same at owned) s) refl
-relocks {at} {live} (fixed bytes holder) h f k loose owned re w = let e : fixed_lock ≡ live.lock = same_lock (fixed_live_is at _ _ f.named) in absurd (omega arith)
+relocks {at} {live} (fixed bytes holder) h f k loose owned re w = let e = same_lock (fixed_live_is at _ _ f.named) in absurd (omega arith)
 
 pub relocked_there : {old new : List ℕ} {found : Found} {lock : ℕ} (word : ℕ) → HeapAccepted old → IsOne old found → found.lock < fixed_lock → (lock ≡ 0) ⊎ (0 < found.owner) → Relocks old new (found.place.0 - 8) lock → new ≡ overwritten old (found.place.0 - 8 + 4) (u32_bytes word) → Alters old new (found.place.0 - 8) (with_lock lock) × WritesPlain old new
 relocked_there {old} {new} {found} {lock} word h f loose owned re is =

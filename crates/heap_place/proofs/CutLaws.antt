@@ -66,8 +66,7 @@ was_cut {old} mid {new} {at} {room} size accepted r least whole within wrote is 
     let new_heap = free_replaced old new r.before r.run others r.after at heap replaces slots r.all_free (gap_free rest) in
     let sizes = replaced_total old new r.before r.run others r.after at replaces in
     let alike = merged-left others r.run r.after (runs-merged others r.run (gap_free rest) r.all_free (omega arith) sizes) in
-    let all_alike : merged (r.before ++ (others ++ r.after)) ≡ merged (chunks_of old) = merged-right r.before (others ++ r.after) (r.run ++ r.after) alike ∙ ap merged (sym r.chunks) in
-    let start_new = same_start old new replaces.head in
+    let all_alike = merged-right r.before (others ++ r.after) (r.run ++ r.after) alike ∙ ap merged (sym r.chunks) in
     let becomes = becomes_alike old new (r.before ++ (others ++ r.after)) (chunks_of old) all_alike (becomes_heap old new (r.before ++ (others ++ r.after)) replaces.head new_heap) in (
       becomes,
       chunks_of-tiled new (r.before ++ (others ++ r.after)) new_heap.tiles,
@@ -89,7 +88,7 @@ rest_length old new at size w inside whole = (rest_within old new at size at _ w
 
 -- where a free chunk lies that was cut off
 pub cut_facts : {image : List ℕ} {size at : ℕ} → HeapAccepted image → IsFreeChunk image at size → (at + size ≤ length image) × (area_start image ≤ at) × (at % 8 ≡ 0) × (length image ≤ 16777208)
-cut_facts {image} {size} {at} accepted r =
+cut_facts accepted r =
     let m = chunk_middle accepted r in
     (omega arith, omega arith, m.start_whole, m.most)
 
@@ -97,9 +96,6 @@ pub header_movable : (count lock owner slot : ℕ) (c : Chunk) → headers.Movab
 header_movable count lock owner slot (free n) e = absurd cc
 header_movable count lock owner slot (fixed bytes v) e = absurd cc
 header_movable count lock owner slot (movable bytes l v s) e =
-    let a : lock ≡ l = cc in
-    let b : owner ≡ v = cc in
-    let d : slot ≡ s = cc in
     let n : count ≡ length bytes = cc in
     (bytes, (cc, sym n))
 
@@ -143,7 +139,7 @@ claimed_area old {h} {z} at count owner slot inside h_is z_is =
     let zeros : length (replicate {A = ℕ} count 0) ≡ count = length-replicate count 0 in
     let header = wrote_wider old h at (at + length words) at (at + need count) (wrote_part old h at words h_is (omega arith)) (omega arith) (omega arith) in
     let body = wrote_part h z (at + 8) (replicate count 0) z_is (omega arith) in
-    wrote_then old h z at (at + need count) header (wrote_wider h z (at + 8) (at + 8 + length (replicate {A = ℕ} count 0)) at (at + need count) body (omega arith) (omega arith))
+    wrote_then old h z at (at + need count) header (wrote_wider h z (at + 8) (at + 8 + length (replicate count 0)) at (at + need count) body (omega arith) (omega arith))
 
 -- what is written among the chunks leaves the tables where they are
 pub claimed_table : {old h z : List ℕ} {at : ℕ} (count owner : ℕ) {slot : ℕ} → HeapAccepted old → (r : IsFreeChunk old at (need count)) → IsSlot old slot → h ≡ overwritten old at (live_words count 0 owner (h_offset_to at slot)) → z ≡ overwritten h (at + 8) (replicate count 0) → TablesLie z × IsSlot z slot
@@ -168,22 +164,21 @@ claimed_write {old} {h} {z} {new} {at} count owner {slot} accepted r s empty h_i
     let zeros : length (replicate {A = ℕ} count 0) ≡ count = length-replicate count 0 in
     let w1 = wrote_wider old h at (at + length (live_words count 0 owner (h_offset_to at slot))) at (at + size) (wrote_part old h at (live_words count 0 owner (h_offset_to at slot)) h_is (omega arith)) (omega arith) (omega arith) in
     let w2' = wrote_part h z (at + 8) (replicate count 0) z_is (omega arith) in
-    let w2 = wrote_wider h z (at + 8) (at + 8 + length (replicate {A = ℕ} count 0)) at (at + size) w2' (omega arith) (omega arith) in
+    let w2 = wrote_wider h z (at + 8) (at + 8 + length (replicate count 0)) at (at + size) w2' (omega arith) (omega arith) in
     let area = claimed_area old at count owner slot inside h_is z_is in
     let word = wrote_word z new slot (at + 8) new_is (omega arith) in
-    let first : u32_at new at ≡ u32_at h at = beside_word z new slot at (at + (size + 0)) at word beside (omega arith) (omega arith) (omega arith) ∙ wrote_word_apart h z (at + 8) (at + 8 + length (replicate {A = ℕ} count 0)) at w2' (inl (omega arith)) in
-    let second : u32_at new (at + 4) ≡ u32_at h (at + 4) = beside_word z new slot at (at + (size + 0)) (at + 4) word beside (omega arith) (omega arith) (omega arith) ∙ wrote_word_apart h z (at + 8) (at + 8 + length (replicate {A = ℕ} count 0)) (at + 4) w2' (inl (omega arith)) in
+    let first = beside_word z new slot at (at + (size + 0)) at word beside (omega arith) (omega arith) (omega arith) ∙ wrote_word_apart h z (at + 8) (at + 8 + length (replicate count 0)) at w2' (inl (omega arith)) in
+    let second = beside_word z new slot at (at + (size + 0)) (at + 4) word beside (omega arith) (omega arith) (omega arith) ∙ wrote_word_apart h z (at + 8) (at + 8 + length (replicate count 0)) (at + 4) w2' (inl (omega arith)) in
     let body : slice_range new (at + 8) (at + 8 + count) ≡ replicate count 0 =
     sym (slice-same (at + 8) (at + 8 + count) z new (beside_same z new slot at (at + (size + 0)) (at + 8) (at + 8 + count) word beside (omega arith) (omega arith) (omega arith)) (omega arith) (omega arith))
     ∙ ap (λ x. take (at + 8 + count - (at + 8)) (drop (at + 8) x)) z_is ∙ slice-overwritten h (at + 8) (replicate count 0) count zeros (omega arith) in
     let spelled = zeroed new count 0 owner slot header (omega arith) first second body in
-    let takes : need (length (replicate {A = ℕ} count 0)) ≡ size = ap need zeros in
     let is : at ≡ area_start old + total r.before = r.there in
     let wrote = subst (λ n. WroteArea old new at (at + n)) (let e : size ≡ size + 0 = omega arith in e)
     record { mid = z; slot = slot; area = area; word = word; is_slot = inr s; there = omega arith; fits = omega arith } in
     let replaces = area_replaces old new r.before (free size ∷ []) (movable (replicate count 0) 0 owner slot ∷ []) r.after at heap.tiles tt is (omega arith) wrote (spelled, omega arith) in
-    let now : u32_at new slot ≡ at + 8 = ap (λ x. u32_at x slot) new_is ∙ u32_at-written (at + 8) slot z (omega arith) (omega arith) in
-    let others : OtherSlots old new slot = record { same = λ t ts ne. area_slots old new r.before (free size ∷ []) r.after at t heap.tiles tt is wrote ts (λ (e : slot ≡ t). ne (sym e)) } in
+    let now = ap (λ x. u32_at x slot) new_is ∙ u32_at-written (at + 8) slot z (omega arith) (omega arith) in
+    let others : OtherSlots old new slot = record { same = λ t ts ne. area_slots old new r.before (free size ∷ []) r.after at t heap.tiles tt is wrote ts (λ e. ne (sym e)) } in
     let c = claimed old new r.before r.after at (free size) (replicate count 0) owner slot tt heap replaces s empty now others in (
       becomes_heap old new (r.before ++ movable (replicate count 0) 0 owner slot ∷ r.after) replaces.head c,
       λ there apart b. keeps_replaced old new r.before (free size ∷ []) (movable (replicate count 0) 0 owner slot ∷ []) r.after at accepted r.chunks c replaces there (other_apart at size there apart) b,
@@ -196,7 +191,6 @@ pub header_fixed : (count owner : ℕ) (c : Chunk) → headers.Fixed count owner
 header_fixed count owner (free n) e = absurd cc
 header_fixed count owner (movable bytes l v s) e = absurd cc
 header_fixed count owner (fixed bytes v) e =
-    let b : owner ≡ v = cc in
     let n : count ≡ length bytes = cc in
     (bytes, (cc, sym n))
 
@@ -225,7 +219,6 @@ fixed_claimed {old} {mid} {new} {at} count owner h r some most mid_is header new
     let first = wrote_wider old mid at (at + 8) at (at + need count) (wrote_words old mid at count fixed_lock owner 0 inside mid_is) (omega arith) (omega arith) in
     let both = wrote_then old mid new at (at + need count) first (rw len at b.1) in
     let size : need count + 0 ≡ need count = omega arith in
-    let takes : need (length (replicate {A = ℕ} count 0)) ≡ need count = ap need zeros in
     let area = subst (λ n. WroteArea old new at (at + n)) (sym size) record { mid = new; slot = at; area = both; word = wrote_none new at (at + 4); is_slot = inl refl; there = omega arith; fits = omega arith } in
     let replaces = area_replaces old new r.before (free (need count) ∷ []) (fixed (replicate count 0) owner ∷ []) r.after at heap.tiles tt r.there (omega arith) area (spelled, omega arith) in
     let c =

@@ -44,11 +44,11 @@ middle_of image before mid after at h e =
 
 -- a free chunk, where it stands
 pub chunk_middle : {image : List ℕ} {at size : ℕ} → HeapAccepted image → (f : IsFreeChunk image at size) → Middle image f.before (free size ∷ []) f.after at
-chunk_middle {image} {at} {size} h f = middle_of _ _ _ _ at (heap_in_parts _ _ h f.chunks) f.there
+chunk_middle {at} h f = middle_of _ _ _ _ at (heap_in_parts _ _ h f.chunks) f.there
 
 -- a chunk of a name, where it stands
 pub finds_middle : {image : List ℕ} {name at : ℕ} {live : LiveChunk} {c : Chunk} → HeapAccepted image → (f : Finds image name live c at) → Middle image f.before (c ∷ []) f.after at
-finds_middle {image} {at} {c} h f = middle_of _ _ _ _ at (heap_in_parts _ _ h f.chunks) f.there
+finds_middle {at} h f = middle_of _ _ _ _ at (heap_in_parts _ _ h f.chunks) f.there
 
 -- the slot of a movable chunk
 pub own_slot : (image : List ℕ) (name at : ℕ) (live : LiveChunk) (bytes : List ℕ) (lock owner slot : ℕ) → HeapAccepted image → Finds image name live (movable bytes lock owner slot) at → IsSlot image slot

@@ -31,7 +31,7 @@ bound_after image before c after size e there is =
 
 -- after a free chunk
 pub chunk_bound : {image : List ℕ} {at size : ℕ} → IsFreeChunk image at size → IsBound image (at + size)
-chunk_bound {image} {size} f = bound_after _ _ _ _ size f.chunks f.there refl
+chunk_bound {size} f = bound_after _ _ _ _ size f.chunks f.there refl
 
 -- after a chunk whose header is read
 pub header_bound : {image : List ℕ} {at : ℕ} {header : Header} → HeapAccepted image → IsBound image at → HasHeader image at header → IsBound image (at + size_by header) × (at + size_by header ≤ length image) × (8 ≤ size_by header)
@@ -61,11 +61,11 @@ header_bound {image} {at} {header} h b found = by_after b.after b.ends.chunks wh
 -- ---- one step
 
 pub gathered_lists : {old mid new heads after : List ℕ} {at : ℕ} (size : ℕ) → 8 ≤ size → AreLists (Before at) old heads → KeepsFree (Outside at size) old mid → Pushes mid new heads after at → AreLists (Before (at + size)) new after
-gathered_lists {old} {mid} {heads} {at} size least a keeps p =
+gathered_lists {old} {mid} size least a keeps p =
     push_lists _ _ (lists_kept _ old mid _ (λ x before b. keeps x (inl before) b) a) (λ x b before. (omega arith, λ e. omega arith)) (omega arith) p
 
 pub passed_lists : {image heads : List ℕ} (at more : ℕ) → AreLists (Before at) image heads → AreLists (Before (at + more)) image heads
-passed_lists {image} {heads} at more a = lists_weaker _ _ _ _ (λ x b before. omega arith) a
+passed_lists at more a = lists_weaker _ _ _ _ (λ x b before. omega arith) a
 
 -- what is done keeps those in front
 pub kept_lists : (old new heads : List ℕ) (at to : ℕ) → at ≤ to → KeepsFree (Before at) old new → AreLists (Before at) old heads → AreLists (Before to) new heads

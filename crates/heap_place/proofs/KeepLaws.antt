@@ -120,7 +120,7 @@ pub links_start : {old new : List ℕ} {at word : ℕ} → Links old new at word
 links_start {old} {new} l = frame_start old new l.frame
 
 pub links_begin : {old new : List ℕ} {at word : ℕ} (there : ℕ) → Links old new at word → BeginsFree new there → BeginsFree old there
-links_begin {old} {new} there l b = rw l.chunks at (rw (links_start l) at b)
+links_begin there l b = rw l.chunks at (rw (links_start l) at b)
 
 pub links_plain : (old new : List ℕ) (at word : ℕ) → Links old new at word → WritesPlain old new
 links_plain old new at word l there b = let was = links_begin _ l b in inr (was, l.firsts there was)

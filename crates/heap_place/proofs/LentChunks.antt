@@ -55,19 +55,19 @@ lent_has_chunk {m} place h begins = has_chunk h.accepted (named_lent (lent_at m 
 -- ---- what its header says
 
 header_is : {image : List ℕ} {name : ℕ} (place : ℕ) {live : LiveChunk} {c : Chunk} {header : Header} → HeapAccepted image → Finds image name live c (place - 8) → ReadsHeader image (place - 8) header → header ≡ header_of c
-header_is {image} {name} place {live} {c} h f read = some_same (read ∙ ap (option_map header_of) (finds_read _ name live c _ h f))
+header_is {name} place {live} {c} h f read = some_same (read ∙ ap (option_map header_of) (finds_read _ name live c _ h f))
 
 movable_one : {image : List ℕ} (place : Place) {header : Header} {found : Found} → HeapAccepted image → 8 ≤ place.0 → NamedLent image place.0 → ReadsHeader image (place.0 - 8) header → found_if_movable header place ≡ Some found → IsOne image found
 movable_one {image} place {found} h low (lent_movable bytes lock owner slot f) read is =
-    let of_chunk : found_if_movable (headers.Movable (length bytes) lock owner slot) place ≡ Some found = ap (λ x. found_if_movable x place) (sym (header_is _ h f read)) ∙ is in
+    let of_chunk = ap (λ x. found_if_movable x place) (sym (header_is _ h f read)) ∙ is in
     subst (λ x. IsOne image x) (some_same of_chunk) (record { live = _; chunk = movable bytes lock owner slot; finds = f; behind_header = low; name_is = refl; count = refl; lock_is = refl; owner_is = refl })
 movable_one place {found} h low (lent_fixed bytes owner f) read is =
-    let none : found_if_movable (headers.Fixed (length bytes) owner) place ≡ Some found = ap (λ x. found_if_movable x place) (sym (header_is _ h f read)) ∙ is in
+    let none = ap (λ x. found_if_movable x place) (sym (header_is _ h f read)) ∙ is in
     absurd cc
 
 fixed_one : {image : List ℕ} (place : Place) {header : Header} → HeapAccepted image → 8 ≤ place.0 → NamedLent image place.0 → ReadsHeader image (place.0 - 8) header → found_if_movable header place ≡ None → IsFixed image place.0
 fixed_one place h low (lent_movable bytes lock owner slot f) read is =
-    let some : found_if_movable (headers.Movable (length bytes) lock owner slot) place ≡ None = ap (λ x. found_if_movable x place) (sym (header_is _ h f read)) ∙ is in
+    let some = ap (λ x. found_if_movable x place) (sym (header_is _ h f read)) ∙ is in
     absurd cc
 fixed_one place h low (lent_fixed bytes owner f) read is = record { live = fixed_live bytes owner; bytes = bytes; owner = owner; finds = f; behind_header = low }
 

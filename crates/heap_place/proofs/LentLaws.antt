@@ -76,7 +76,7 @@ second_within {m} {at} h f = part_within m at 8 _ 4 (words_within h f) (omega ar
 
 -- the body of what is made of it, once its header is written
 pub body_still : {old new : Memory} {at : ℕ} (count : ℕ) → HoldsHeap old → IsFreeChunk old.bytes at (need count) → new.lents ≡ old.lents → length new.bytes ≡ length old.bytes → IsWithin new (at + 8) count
-body_still {old} {new} {at} count h f same len = still_within old new _ _ (free_part _ _ h f (omega arith) (omega arith)) same len
+body_still {old} {new} count h f same len = still_within old new _ _ (free_part _ _ h f (omega arith) (omega arith)) same len
 
 pub filled_holds : {old new : Memory} {at size : ℕ} {c : Chunk} → HoldsHeap old → new.lents ≡ old.lents → (f : IsFreeChunk old.bytes at size) → Fills old.bytes new.bytes at size c → size_of c ≡ size → HoldsHeap new
 filled_holds {old} {new} {size} {c} h same f x sizes = record { accepted = (x f).frame.accepted; lent = loose_lends old new _ (free size ∷ []) (c ∷ []) f.after h.lent same f.chunks (x f) (omega arith) tt }
@@ -150,7 +150,7 @@ placed_lends old new l same e s =
 -- a body is lent
 lent_there : (at : ℕ) (lent : Lent) (name : ℕ) (live : LiveChunk) (c : Chunk) → NamedHere name live at c → 0 < live.lock → lent.at ≡ at + 8 → lent.count ≡ length live.bytes → LentHere lent at c
 lent_there at lent name live (free size) n some there count = absurd n
-lent_there at lent name live (movable bytes zero owner slot) n some there count = let e : 0 ≡ live.lock = same_lock n.1 in absurd (omega arith)
+lent_there at lent name live (movable bytes zero owner slot) n some there count = let e = same_lock n.1 in absurd (omega arith)
 lent_there at lent name live (movable bytes (suc lock) owner slot) n some there count = (there, count ∙ sym (same_length n.1))
 lent_there at lent name live (fixed bytes owner) n some there count = (there, count ∙ sym (same_length n.1), n.2)
 

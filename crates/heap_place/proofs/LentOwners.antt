@@ -33,13 +33,13 @@ aside_other image owner lent x b c a e own = λ same.
     let size = owned_size owner c own in
     elim (apart b c a p.before p.chunk p.after (sym e ∙ p.parts)) [
       | in_front k ↦ omega arith
-      | one t is ↦ let twice : true ≡ false = sym own ∙ ap (is_owned_by owner) is ∙ p.holds.1 in absurd cc
+      | one t is ↦ let twice = sym own ∙ ap (is_owned_by owner) is ∙ p.holds.1 in absurd cc
       | behind k ↦ omega arith
     ]
 
 -- one that is found is not lent
 pub owned_not_lent : (m : Memory) {owner : ℕ} {found : Found} → LendsNoneOf m owner → (f : IsOne m.bytes found) → found.owner ≡ owner → LendsOther m found.place.0
-owned_not_lent m {owner} {found} none f own =
+owned_not_lent m {found} none f own =
     let e : area_start m.bytes + total f.finds.before + 8 ≡ found.place.0 = omega arith in
     subst (λ n. LendsOther m n) e (none _ f.chunk f.finds.after f.finds.chunks (named_owned _ _ _ _ _ f.finds.named (sym f.owner_is ∙ own)))
 

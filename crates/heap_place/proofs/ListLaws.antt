@@ -43,7 +43,7 @@ weaker P Q image class zero at each c on = tt
 weaker P Q image class (suc n) at each c on = (each at c.0 on.0, weaker P Q _ _ n _ each c.1 on.1)
 
 pub free_kept : {old new : List ℕ} {class at : ℕ} → IsFreeOf old class at → KeepsOne old new at → IsFreeOf new class at
-free_kept {class} f k = record { begins = k.begins; of_class = rw (← k.first) at f.of_class; positive = f.positive }
+free_kept f k = record { begins = k.begins; of_class = rw (← k.first) at f.of_class; positive = f.positive }
 
 pub chain_kept : (P : ℕ → Type 0) {old new : List ℕ} (class n at : ℕ) → KeepsFree P old new → Chain old class n at → OnChain P old n at → Chain new class n at
 chain_kept P class zero at keeps c on = c
@@ -61,7 +61,7 @@ each_kept P old new class (suc n) at keeps c on =
 
 -- what keeps the free chunks keeps the lists
 pub list_kept : (P : ℕ → Type 0) {old new : List ℕ} {class head : ℕ} → KeepsFree P old new → IsList P old class head → IsList P new class head
-list_kept P {old} {new} {class} {head} keeps l = record { count = l.count; chain = chain_kept P _ _ head keeps l.chain l.each; each = each_kept P old new _ _ head keeps l.chain l.each }
+list_kept P {old} {new} {head} keeps l = record { count = l.count; chain = chain_kept P _ _ head keeps l.chain l.each; each = each_kept P old new _ _ head keeps l.chain l.each }
 
 pub lists_kept : (P : ℕ → Type 0) (old new heads : List ℕ) → KeepsFree P old new → AreLists P old heads → AreLists P new heads
 lists_kept P old new heads keeps a = record { count = a.count; lists = λ class below. list_kept P keeps (a.lists class below) }
@@ -131,7 +131,7 @@ popped {image} {heads} class {at} a below is some = changed_list _ _ _ _ _ a.cou
 
 -- a free chunk that is in none of the lists in front of one
 pub pushed : (P : ℕ → Type 0) {image heads : List ℕ} {class at : ℕ} → AreLists P image heads → class < class_count → IsFreeOf image class at → P at → second_of image at ≡ slice_index heads class → AreLists P image (set heads class at)
-pushed P {image} {heads} {class} {at} a below free holds next = changed_list P _ _ _ at a.count below longer (λ k low apart. a.lists k low) where
+pushed P {image} {class} {at} a below free holds next = changed_list P _ _ _ at a.count below longer (λ k low apart. a.lists k low) where
   longer : IsList P image class at
   longer =
       let l = a.lists class below in

@@ -81,7 +81,7 @@ fixed_found {image} P {at} name h p has f =
 
 -- it is where its name says
 pub fixed_there : {at : ℕ} (name : Name) {header : Header} {found : Found} {image : List ℕ} → HasHeader image at header → found_if_fixed header (placed (at + 8)) name ≡ Some found → found.place.0 ≡ name.0
-fixed_there {at} name has f = let n = fixed_named at name _ has.header_is f in ap (λ (x : Found). x.place.0) n.is ∙ sym (fixed_place at) ∙ n.there
+fixed_there {at} name has f = let n = fixed_named at name _ has.header_is f in ap (λ x. x.place.0) n.is ∙ sym (fixed_place at) ∙ n.there
 
 not_fixed : (at : ℕ) (name : Name) (c : Chunk) → found_if_fixed (header_of c) (placed (at + 8)) name ≡ None → NotFixedAs name.0 at c
 not_fixed at name (free size) f = tt
@@ -89,13 +89,13 @@ not_fixed at name (movable bytes lock owner slot) f = tt
 not_fixed at name (fixed bytes owner) f = λ some same. let there = sym (cond-true _ _ _ ((Decides-fixed_by at _ name).1 (same, some))) ∙ f in absurd cc
 
 pub fixed_passed : {image : List ℕ} {at : ℕ} (name : Name) {header : Header} → Passed image (NoneFixedAs image name.0) at → HasHeader image at header → found_if_fixed header (placed (at + 8)) name ≡ None → Passed image (NoneFixedAs image name.0) (at + size_by header)
-fixed_passed {image} {at} name {header} p has f = passed_more _ _ _ at _ p has
+fixed_passed {at} name p has f = passed_more _ _ _ at _ p has
     (EveryPlaced-push _ _ _ _ at (passed_at _ _ at p) p.holds
     (not_fixed at name has.chunk (rw has.header_is at f)))
 
 -- one that doesn't begin at an offset is passed
 pub begins_passed : {image : List ℕ} {at : ℕ} (there : ℕ) {header : Header} → Passed image (NoneBeginsAt image there) at → HasHeader image at header → at ≢ there → Passed image (NoneBeginsAt image there) (at + size_by header)
-begins_passed {image} {at} there {header} p has other = passed_more _ _ _ at _ p has
+begins_passed {at} there p has other = passed_more _ _ _ at _ p has
     (EveryPlaced-push (λ k c. k ≢ there) _ _ _ at (passed_at _ _ at p) p.holds other)
 
 none_at : (there start : ℕ) (before : List Chunk) (c : Chunk) (after : List Chunk) → EveryPlaced (λ k d. k ≢ there) start (before ++ c ∷ after) → start + total before ≢ there
@@ -103,11 +103,11 @@ none_at there start [] c after e = λ same. e.0 ((let z : start ≡ start + tota
 none_at there start (b ∷ bs) c after e = λ same. none_at there (start + size_of b) bs c after e.1 ((let z : start + size_of b + total bs ≡ start + total (b ∷ bs) = omega arith in z) ∙ same)
 
 pub held_slot : {image : List ℕ} {name place : ℕ} → HeapAccepted image → HoldsPlace image name place → InSlot image name place
-held_slot {image} {name} {place} h holds = in_slot _ name place h holds.is_slot holds.held holds.some
+held_slot {name} {place} h holds = in_slot _ name place h holds.is_slot holds.held holds.some
 
 -- where no chunk begins no slot's chunk does
 pub none_begins_holds : {image : List ℕ} (place : ℕ) → HeapAccepted image → NoneBeginsAt image (place - 8) (chunks_of image) → NoSlotHolds image place
-none_begins_holds {image} place h none = λ name holds.
+none_begins_holds place h none = λ name holds.
     let i = held_slot h holds in
     none_at _ _ _ _ _ (rw i.finds.chunks at none) (sym i.finds.there)
 
@@ -118,15 +118,12 @@ movable_holds {image} {name} {bytes} {lock} {owner} {slot} {at} h nothing f =
     let body : BodyHere name (at + 8) (area_start image + total f.before) (movable bytes lock owner slot) = (f.named.0, omega arith) in
     let here = rw (← f.chunks) at (AnyPlaced-mid (BodyHere name (at + 8)) (area_start image) f.before (movable bytes lock owner slot) f.after body) in
     let tied = ((read_heap image h).tied name (at + 8) (omega arith)).1 here in
-    let empty = nothing tied.0 in
     absurd (omega arith)
 
 fixed_chunk : {image : List ℕ} {name : ℕ} {live : LiveChunk} (c : Chunk) {at : ℕ} → HeapAccepted image → HoldsNothing image name → Finds image name live c at → IsFixed image name
 fixed_chunk (free size) h nothing f = absurd f.named
 fixed_chunk (movable bytes lock owner slot) h nothing f = absurd (movable_holds h nothing f)
 fixed_chunk {image} {name} {live} (fixed bytes owner) {at} h nothing f =
-    let is = fixed_name_is at bytes owner f.named in
-    let place = fixed_place at in
     let there : at ≡ name - 8 = omega arith in
     record { live = live; bytes = bytes; owner = owner; finds = rw there at f; behind_header = omega arith }
 
@@ -135,12 +132,12 @@ is_fixed name None h e some nothing = absurd cc
 is_fixed {image} name (Some live) h e some nothing = let f = held_finds image name live h e in fixed_chunk f.chunk h nothing f.finds
 
 pub fixed_has_chunk : {image : List ℕ} {name : ℕ} → HeapAccepted image → (i : IsFixed image name) → HasChunk image (name - 8)
-fixed_has_chunk {image} {name} h i = record { chunk = fixed i.bytes i.owner; spelled = finds_spelled _ name _ _ _ h i.finds }
+fixed_has_chunk {name} h i = record { chunk = fixed i.bytes i.owner; spelled = finds_spelled _ name _ _ _ h i.finds }
 
 -- what its header says
 pub fixed_header : {image : List ℕ} (name : Name) {header : Header} → HeapAccepted image → (i : IsFixed image name.0) → ReadsHeader image (name.0 - 8) header → found_if_fixed header (placed name.0) name ≡ Some (as_found_at name (length i.bytes) i.owner)
-fixed_header {image} name {header} h i read =
-    let is : header ≡ headers.Fixed (length i.bytes) i.owner = some_same (read ∙ ap (option_map header_of) (finds_read _ _ _ _ _ h i.finds)) in
+fixed_header name {header} h i read =
+    let is = some_same (read ∙ ap (option_map header_of) (finds_read _ _ _ _ _ h i.finds)) in
     ap (λ x. found_if_fixed x (placed name.0) name) is ∙ cond-true _ _ _ ((Decides-and _ _ (Decides-eqb name.0 name.0) (Decides-ltb 0 i.owner)).1 (refl, fixed_owned _ _ _ i.finds.named))
 
 pub fixed_is_found : {image : List ℕ} (name : Name) {found : Found} → (i : IsFixed image name.0) → Some (as_found_at name (length i.bytes) i.owner) ≡ Some found → IsFound image name.0 found
@@ -160,7 +157,7 @@ fixed_is_found {image} name i e =
 -- ---- by a slot
 
 pub slot_header : {image : List ℕ} {name place : ℕ} → HeapAccepted image → (s : InSlot image name place) → option_map header_of (chunk_at image (place - 8)) ≡ Some (headers.Movable (length s.live.bytes) s.live.lock s.live.owner s.named)
-slot_header {image} {name} h s = ap (option_map header_of) (finds_read _ name _ _ _ h s.finds)
+slot_header {name} h s = ap (option_map header_of) (finds_read _ name _ _ _ h s.finds)
 
 -- what is read at the place that a slot holds is its chunk
 slot_found : {image : List ℕ} {name : ℕ} (place : Place) {header : Header} → HeapAccepted image → ReadsHeader image (place.0 - 8) header → HoldsPlace image name place.0 → MatchOption (found_if_movable header place) ⊥ (IsFound image name)
@@ -202,7 +199,7 @@ slot_low h holds = (held_slot h holds).behind_header
 
 -- a live chunk stands at the place that a slot holds
 pub slot_live : {image : List ℕ} {name place : ℕ} → HeapAccepted image → (holds : HoldsPlace image name place) → HasLive image (place - 8)
-slot_live {image} {name} h holds =
+slot_live {name} h holds =
     let s = held_slot h holds in
     let live = finds_spelled _ name _ _ _ h s.finds in
     record { bytes = s.live.bytes; lock = s.live.lock; owner = s.live.owner; h_offset = live.0; is = live.1 }
@@ -211,7 +208,7 @@ slot_live {image} {name} h holds =
 pub slot_fields : {image : List ℕ} (name : Name) {place : ℕ} (fields : LiveFields) → HeapAccepted image → HoldsPlace image name.0 place
     → ((bytes : List ℕ) (lock owner h_offset : ℕ) → IsLive image (place - 8) bytes lock owner h_offset → (fields.length ≡ length bytes) × (fields.lock ≡ lock) × (fields.owner ≡ owner))
     → IsFound image name.0 (record { name = name; place = placed place; length = fields.length; lock = fields.lock; owner = fields.owner })
-slot_fields {image} name fields h holds says =
+slot_fields name fields h holds says =
     let s = held_slot h holds in
     let live = finds_spelled _ _ _ _ _ h s.finds in
     let are = says s.live.bytes s.live.lock s.live.owner live.0 live.1 in
@@ -219,7 +216,7 @@ slot_fields {image} name fields h holds says =
 
 -- a header that stands there is the one that is read
 pub header_read : {image : List ℕ} {at : ℕ} {header : Header} → HasHeader image at header → ReadsHeader image at header
-header_read {image} {at} h = ap (λ x. Some x) h.header_is ∙ sym (ap (option_map header_of) (chunk_at-spelled _ at _ h.spelled))
+header_read {at} h = ap (λ x. Some x) h.header_is ∙ sym (ap (option_map header_of) (chunk_at-spelled _ at _ h.spelled))
 
 -- ---- what is not found
 
@@ -248,7 +245,7 @@ slot_header_is h read holds =
 pub other_holds_none : {image : List ℕ} (place : Place) {header : Header} → HeapAccepted image → ReadsHeader image (place.0 - 8) header → found_if_movable header place ≡ None → NoSlotHolds image place.0
 other_holds_none place h read none name holds =
     let b = slot_header_is h read holds in
-    let is : found_if_movable (headers.Movable (length b.0.live.bytes) b.0.live.lock b.0.live.owner name) place ≡ None = ap (λ x. found_if_movable x place) (sym b.1) ∙ none in
+    let is = ap (λ x. found_if_movable x place) (sym b.1) ∙ none in
     absurd cc
 
 movable_name : (count lock owner slot : ℕ) (place : Place) {found : Found} → found_if_movable (headers.Movable count lock owner slot) place ≡ Some found → found.name.0 ≡ slot
@@ -263,11 +260,11 @@ elsewhere_holds_none {image} place h read is not_held name holds =
 
 -- it holds this place
 pub slot_one : {image : List ℕ} (place : Place) {found : Found} {header : Header} → HeapAccepted image → ReadsHeader image (place.0 - 8) header → found_if_movable header place ≡ Some found → HoldsPlace image found.name.0 place.0 → IsOne image found
-slot_one {image} place {found} h read is holds = rw is at (slot_found place h read holds)
+slot_one place h read is holds = rw is at (slot_found place h read holds)
 
 pub movable_place : (header : Header) (place : Place) {found : Found} → found_if_movable header place ≡ Some found → found.place.0 ≡ place.0
 movable_place (headers.Free size) place e = absurd cc
-movable_place (headers.Movable count lock owner slot) place e = ap (λ (x : Found). x.place.0) (sym (some_same e))
+movable_place (headers.Movable count lock owner slot) place e = ap (λ x. x.place.0) (sym (some_same e))
 movable_place (headers.Fixed count owner) place e = absurd cc
 
 -- neither a slot nor a fixed chunk has the place

@@ -25,7 +25,7 @@ table_written {old} {h} {z} {at} accepted chained r h_is header z_is =
     let zeros : length (replicate {A = ℕ} 64 0) ≡ 64 = length-replicate {A = ℕ} 64 0 in
     let head = wrote_words old h at 64 fixed_lock 0 0 inside h_is in
     let body = wrote_part h z (at + 8) (replicate 64 0) z_is (omega arith) in
-    let part : slice_range z (at + 8) (at + 8 + 64) ≡ replicate 64 0 = ap (λ x. take (at + 8 + 64 - (at + 8)) (drop (at + 8) x)) z_is ∙ slice-overwritten h _ _ 64 zeros (omega arith) in
+    let part = ap (λ x. take (at + 8 + 64 - (at + 8)) (drop (at + 8) x)) z_is ∙ slice-overwritten h _ _ 64 zeros (omega arith) in
     let m = header_fixed 64 0 header.chunk header.header_is in
     let s = subst (λ c. Spelled h at c) m.1.0 header.spelled in
     let many : length m.0 ≡ 64 = m.1.1 in
@@ -82,7 +82,6 @@ table_lays accepted chained r h_is header z_is new_is = record { first = table_w
 pub table_claimed : {old z new : List ℕ} {at : ℕ} → (r : IsFreeChunk old at 72) → LaysTable old z new r.before r.after at → TableClaimed old new at
 table_claimed {old} {z} {new} {at} r l =
     let d = lays_table old z new r.before r.after at l in
-    let ms : List Chunk = r.before ++ table_chunk ∷ r.after in
     let start = stays_start z new d.added.head in
     let first = keeps_tiled r.chunks d.tiles d.replaces in
     let second = alike_keeps d.tiles d.added.tiles start d.added.alike in

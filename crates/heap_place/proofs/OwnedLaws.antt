@@ -56,7 +56,7 @@ not_owned_named at owner (fixed bytes own) e = other_test _ _ e
 
 -- it is found where the walk has come to
 abbrev pub owned_one : {image : List ℕ} (P : List Chunk → Type 0) {at : ℕ} (owner : ℕ) {header : Header} {found : Found} → HeapAccepted image → 0 < owner → Passed image P at → HasHeader image at header → FindsOwned header at owner found → IsOne image found
-owned_one {image} P {at} owner {found} h some p has is =
+owned_one P {at} owner {found} h some p has is =
     let o = owned_named at owner has.chunk has.header_is is in
     let parts = passed_parts P h p has in
     let back : at ≡ found.place.0 - 8 = omega arith in
@@ -84,7 +84,7 @@ owned_other m {at} owner none f has is = owned_not_lent m none f (owned_named at
 -- ---- whether one is lent
 
 lent_pushed : (m : Memory) {at : ℕ} (owner : ℕ) {header : Header} → Passed m.bytes (NoneLentAmong m owner) at → (has : HasHeader m.bytes at header) → (IsTrue (is_owned_by owner has.chunk) → LendsOther m (at + 8)) → Passed m.bytes (NoneLentAmong m owner) (at + size_by header)
-lent_pushed m {at} owner {header} p has other = passed_more _ _ _ at _ p has
+lent_pushed m {at} owner p has other = passed_more _ _ _ at _ p has
     (EveryPlaced-push (λ k c. IsTrue (is_owned_by owner c) → LendsOther m (k + 8)) _ _ _ at (passed_at _ _ at p) p.holds other)
 
 -- another owner's chunk is passed

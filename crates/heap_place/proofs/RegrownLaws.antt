@@ -71,7 +71,7 @@ none_outside {image} there none h r b = elim (AnyPlaced-split _ _ _ _ (rw r.chun
   sizes = EveryPlaced-split _ _ _ _ (SpelledAll-takes _ _ _ _ (heap_in_parts _ _ h r.chunks).tiles.area)
 
 pub none_unlinked : {image heads : List ℕ} {at size : ℕ} → size ≡ 0 → HeapAccepted image → IsSpot image at size → HasLists image heads → AreLists (Outside at size) image heads
-none_unlinked {image} {heads} {at} {size} none h r lists = lists_weaker Any _ _ _ (λ x b any. none_outside x none h r b) lists
+none_unlinked none h r lists = lists_weaker Any _ _ _ (λ x b any. none_outside x none h r b) lists
 
 -- ---- what a resize keeps, and what is left
 
@@ -80,7 +80,7 @@ resized_keeps old new found count behind h r w there out b =
     let f = r.one.finds in
     let c : Chunk = r.one.chunk in
     let at : ℕ = found.place.0 - 8 in
-    let parts : chunks_of old ≡ f.before ++ ((c ∷ r.run) ++ r.rest) = f.chunks ∙ ap (λ cs. f.before ++ c ∷ cs) r.parts in
+    let parts = f.chunks ∙ ap (λ cs. f.before ++ c ∷ cs) r.parts in
     let size = found_size old found r.one in
     let all : need found.length + behind ≡ total (c ∷ r.run) = omega arith in
     keeps_replaced old new f.before (c ∷ r.run) (with_length count c ∷ gap (size_of c + behind - need count)) r.rest at h parts w.heap w.replaces there

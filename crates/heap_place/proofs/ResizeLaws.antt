@@ -16,7 +16,7 @@ pub record RunFacts (image : List ℕ) (found : Found) (behind : ℕ) : Type 0 w
   pub body : found.place.0 + found.length ≤ length image
 
 pub run_middle : {image : List ℕ} {found : Found} {behind : ℕ} → HeapAccepted image → (r : RunBehind image found behind) → Middle image r.one.finds.before (r.one.chunk ∷ r.run) r.rest (found.place.0 - 8)
-run_middle {image} h r =
+run_middle h r =
     let f = r.one.finds in
     let c : Chunk = r.one.chunk in
     middle_of _ _ _ _ _ (heap_in_parts _ _ h (f.chunks ∙ ap (λ cs. f.before ++ c ∷ cs) r.parts)) f.there
@@ -102,8 +102,8 @@ sized_body old {filled} {new} at count {bytes} body inside fits is same len_fill
       longer : length bytes < count → slice_range filled start (start + count) ≡ sized_to bytes count
       longer more =
           let zeros_are = many in
-          let size : length (take count (drop start old)) ≡ count = length-take-le count (drop start old) (let n = length-drop start old in omega arith) in
-          let kept : take (length bytes) (take count (drop start old)) ≡ bytes = take-take (length bytes) count (drop start old) (omega arith) ∙ was in
+          let size = length-take-le count (drop start old) (let n = length-drop start old in omega arith) in
+          let kept = take-take (length bytes) count (drop start old) (omega arith) ∙ was in
           ap (λ x. take (start + count - start) (drop start x)) is
           ∙ slice-overwritten-within old _ _ count zeros (omega arith) (omega arith)
           ∙ ap (λ n. overwritten (take n (drop start old)) (length bytes) zeros) (whole count)
@@ -137,14 +137,14 @@ sized_spelled {new} {at} count (movable bytes lock owner slot) live none body ha
     let len = length-sized_to bytes count in
     let m = header_movable (length sized) lock owner slot has.chunk has.header_is in
     let t = subst (λ x. Spelled new at x) m.1.0 has.spelled in
-    let same_bytes : m.0 ≡ sized = sym (movable_body new at m.0 lock _ t.0 t.1 t.2) ∙ ap (λ k. slice_range new (at + 8) (at + 8 + k)) (m.1.1 ∙ len) ∙ body in
+    let same_bytes = sym (movable_body new at m.0 lock _ t.0 t.1 t.2) ∙ ap (λ k. slice_range new (at + 8) (at + 8 + k)) (m.1.1 ∙ len) ∙ body in
     subst (λ x. Spelled new at (movable x lock owner slot)) same_bytes t
 sized_spelled {new} {at} count (fixed bytes owner) live none body has =
     let sized : List ℕ = sized_to bytes count in
     let len = length-sized_to bytes count in
     let m = header_fixed (length sized) owner has.chunk has.header_is in
     let t = subst (λ x. Spelled new at x) m.1.0 has.spelled in
-    let same_bytes : m.0 ≡ sized = sym (callers_body new at m.0 _ _ 0 t none.0) ∙ ap (λ k. slice_range new (at + 8) (at + 8 + k)) (m.1.1 ∙ len) ∙ body in
+    let same_bytes = sym (callers_body new at m.0 _ _ 0 t none.0) ∙ ap (λ k. slice_range new (at + 8) (at + 8 + k)) (m.1.1 ∙ len) ∙ body in
     subst (λ x. Spelled new at (fixed x owner)) same_bytes t
 
 -- where it stands in the image
@@ -203,7 +203,7 @@ resized {old} {filled} mid {new} {found} count {behind} h r fits filled_is wrote
     let w2 = rest_within filled mid (at + need count) left (at + need count) (at + all) wrote_left (omega arith) (omega arith) (omega arith) (omega arith) in
     let len2 = w2.len in
     let e = header_sized count h one in
-    let now : new ≡ overwritten mid at (header_words at (header_of d)) = is ∙ ap (λ x. overwritten mid at (header_words at x)) e in
+    let now = is ∙ ap (λ x. overwritten mid at (header_words at x)) e in
     let header = subst (λ x. HasHeader new at x) e has in
     let kind = sized_kind (directory_of old) at count c live in
     let live_now = kind.0 in

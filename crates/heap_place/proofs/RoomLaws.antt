@@ -76,7 +76,7 @@ search_start image size some inside = record { front = []; run = []; spelled = r
 
 -- a chunk stands where the search has come to
 pub search_there : {image : List ℕ} {size at run_size : ℕ} → HeapAccepted image → Searched image size at run_size → at < length image → HasChunk image at
-search_there {image} {at} h s inside = let c = chunk_there _ h.0 _ at h.1.tiles s.spelled inside in record { chunk = c.0; spelled = c.1 }
+search_there {at} h s inside = let c = chunk_there _ h.0 _ at h.1.tiles s.spelled inside in record { chunk = c.0; spelled = c.1 }
 
 pub search_fits : {image : List ℕ} {size at run_size : ℕ} → Searched image size at run_size → run_size ≤ at
 search_fits {image} {at} s =
@@ -107,14 +107,14 @@ pushed_run {image} {at} {run_size} {h} s found =
     (run_push _ at _ _ _ _ record { front = s.front; run = s.run; parts = refl; all_free = s.all_free; sums = s.sums; apart = s.apart })
 
 pub search_more : {image : List ℕ} {size at run_size : ℕ} {h : Header} → Searched image size at run_size → HasHeader image at h → run_by run_size h < size → Searched image size (at + size_by h) (run_by run_size h)
-search_more {image} {size} {at} {run_size} {h} s found small =
+search_more {size} {at} {run_size} {h} s found small =
     let c : Chunk = found.chunk in
     let cs : List Chunk = s.front ++ s.run in
     let r = pushed_run s found in
     let z = search_size s found in
     let low = subst (λ g. run_by run_size g < size) found.header_is small in
     let last = rw (← s.ends) at (below_one size run_size c low) in
-    let ends : run_behind 0 (cs ++ c ∷ []) ≡ run_by run_size h = behind_push 0 cs c ∙ ap (λ n. run_behind n (c ∷ [])) s.ends ∙ behind_one _ c ∙ sym (ap (run_by run_size) found.header_is) in
+    let ends = behind_push 0 cs c ∙ ap (λ n. run_behind n (c ∷ [])) s.ends ∙ behind_one _ c ∙ sym (ap (run_by run_size) found.header_is) in
     record {
       front = r.front;
       run = r.run;
@@ -137,7 +137,7 @@ search_found {image} {at} {h} accepted s found =
     let spelled = pushed s found in
     let after = chunks_after image _ (cs ++ c ∷ []) (at + size_by h) accepted.1.tiles spelled z.1 in
     let end = SpelledAll-end image (area_start image) (cs ++ c ∷ []) (at + size_by h) spelled in
-    let split : total (cs ++ c ∷ []) ≡ total r.front + total r.run = ap total r.parts ∙ total-append r.front r.run in
+    let split = ap total r.parts ∙ total-append r.front r.run in
     record {
       before = r.front;
       run = r.run;

@@ -75,7 +75,6 @@ run_more {image} {end} r some e = record {
       let n = reads image end k.rest k.spelled in
       let is = r.there in
       let here : 0 < free_size_at image end = omega arith in
-      let sum = n.sums here in
       record { rest = n.rest; spelled = rw (← is) at (n.spelled here); sums = omega arith };
   there = e;
   behind = omega arith;
@@ -145,11 +144,11 @@ bound_on {image} {at} {size} h b is some = by_rest b.after b.ends.chunks (rw (�
       let same : size ≡ n = is ∙ ap size_if_free r in
       let t = total-append b.before (free n ∷ []) in
       record { before = b.before ++ free n ∷ []; after = cs; ends = record { chunks = e ∙ sym (append_assoc b.before (free n ∷ []) cs); there = omega arith } }
-  on (movable bytes lock owner slot) cs e r = let none : size ≡ 0 = is ∙ ap size_if_free r in absurd (omega arith)
-  on (fixed bytes owner) cs e r = let none : size ≡ 0 = is ∙ ap size_if_free r in absurd (omega arith)
+  on (movable bytes lock owner slot) cs e r = let none = is ∙ ap size_if_free r in absurd (omega arith)
+  on (fixed bytes owner) cs e r = let none = is ∙ ap size_if_free r in absurd (omega arith)
 
   by_rest : (cs : List Chunk) → chunks_of image ≡ b.before ++ cs → SpelledAll image at cs (length image) → IsBound image (at + size)
   by_rest [] e s =
-      let none : size ≡ 0 = is ∙ ap size_if_free (chunk_at-none _ at (λ c t. let inside = (Spelled-size _ at c t).1 in let least = (Spelled-size _ at c t).0 in omega arith)) in
+      let none = is ∙ ap size_if_free (chunk_at-none _ at (λ c t. let inside = (Spelled-size _ at c t).1 in let least = (Spelled-size _ at c t).0 in omega arith)) in
       absurd (omega arith)
   by_rest (c ∷ cs) e s = on c cs e (chunk_at-spelled image at c s.0)

@@ -40,7 +40,7 @@ spliced {old} {new} {class} n m {head} {here} {at} w other c next begins first k
     let not_here = chain_apart old _ m (suc (suc m)) (second_of old at) here rest c (omega arith) in
     let not_at = chain_apart old class m (suc m) (second_of old at) at rest at_chain (omega arith) in
     let rest_now = chain_kept (ButAt here) class m (second_of old at) keeps rest not_here in
-    let both : OnChain (λ x. (x ≢ here) × (x ≢ at)) old m (second_of old at) = pair m _ not_here not_at in
+    let both = pair m _ not_here not_at in
     let both_now = each_kept (λ x. (x ≢ here) × (x ≢ at)) old new _ m _ (λ x p b. keeps x p.0 b) rest both in
     let on_now = weaker (λ x. (x ≢ here) × (x ≢ at)) _ new _ m _ (λ x f p. p.1) rest_now both_now in
     let here_now : IsFreeOf new class here = record { begins = begins; of_class = rw (← first) at c.0.of_class; positive = c.0.positive } in
@@ -73,7 +73,7 @@ two_there image class (suc zero) c some next positive = absurd (omega arith)
 two_there image class (suc (suc n)) c some next positive = record { more = n; chain = c }
 
 pub splice_lists : {old new heads : List ℕ} {class here at word : ℕ} → HasLists old heads → class < class_count → Looking old heads class here at → 0 < at → second_of old here ≡ at → here ≢ 0 → Links old new here word → BeginsFree new here → word ≡ second_of old at → AreLists (ButAt at) new heads
-splice_lists {old} {new} {heads} {class} {here} {at} a below s positive next some l now is = one_and_others _ new _ _ a.count
+splice_lists {old} {new} {class} {here} {at} a below s positive next some l now is = one_and_others _ new _ _ a.count
     (spliced _ _ s.walked s.other two.chain next now (l.firsts here two.chain.0.begins) l.keeps (l.second ∙ is))
     (λ k low apart. other_list here at apart two.chain.0.of_class (rw next at two.chain.1.0.of_class) l.keeps (a.lists k low)) where
       two : Two old class here

@@ -18,7 +18,7 @@ begun_chunk {image} at h b = of_parts (AnyPlaced-parts _ _ _ b) where
     of_chunk (fixed bytes owner) e holds = absurd holds
 
 pub listed_chunk : {image heads : List ℕ} (class : ℕ) → HeapAccepted image → HasLists image heads → class < class_count → slice_index heads class ≢ 0 → IsFreeChunk image (slice_index heads class) (size_field (u32_at image (slice_index heads class)))
-listed_chunk {heads} class h a below some = begun_chunk _ h (head_free _ a below (omega arith)).free.begins
+listed_chunk class h a below some = begun_chunk _ h (head_free _ a below (omega arith)).free.begins
 
 pub chunk_inside : {image : List ℕ} {at size : ℕ} → HeapAccepted image → IsFreeChunk image at size → (at + size ≤ length image) × (8 ≤ size) × (length image ≤ 16777208)
 chunk_inside {image} {at} {size} h f =
@@ -45,12 +45,12 @@ outside_not at size there low high out e = elim out [ inl before ↦ omega arith
 
 -- nothing is left
 pub taken_all : {old mid heads : List ℕ} {at : ℕ} (room : ℕ) → 8 ≤ room → AreLists (Outside at room) old heads → KeepsFree (Outside at room) old mid → AreLists (ButAt at) mid heads
-taken_all {old} {mid} {heads} {at} room least a keeps =
+taken_all {old} {mid} {at} room least a keeps =
     lists_weaker _ _ mid _ (λ x b out. outside_not at room at (omega arith) (omega arith) out) (lists_kept _ old mid _ keeps a)
 
 -- the free chunk after what was cut off
 pub rest_chunk : {old mid : List ℕ} {at room : ℕ} (size : ℕ) → Becomes old mid (chunks_of old) → (r : IsSpot old at room) → CutsRoom old mid at room size → size < room → IsFreeChunk mid (at + size) (room - size)
-rest_chunk {old} {mid} {at} {room} size b r cut less = by_gap _ (cut r) (omega arith) where
+rest_chunk {old} {mid} {at} size b r cut less = by_gap _ (cut r) (omega arith) where
   by_gap : (left : ℕ) → chunks_of mid ≡ r.before ++ (free size ∷ (gap left ++ r.after)) → 0 < left → IsFreeChunk mid (at + size) left
   by_gap zero e some = absurd (omega arith)
   by_gap (suc n) e some =
@@ -59,7 +59,7 @@ rest_chunk {old} {mid} {at} {room} size b r cut less = by_gap _ (cut r) (omega a
       record { before = r.before ++ free size ∷ []; after = _; chunks = e ∙ sym (append_assoc r.before (free size ∷ []) (free (suc n) ∷ r.after)); there = omega arith }
 
 pub taken_rest : {old mid new heads after : List ℕ} {at : ℕ} (room size : ℕ) → 8 ≤ size → size < room → AreLists (Outside at room) old heads → KeepsFree (Outside at room) old mid → Pushes mid new heads after (at + size) → AreLists (ButAt at) new after
-taken_rest {old} {mid} {heads} {at} room size least less a keeps p =
+taken_rest {old} {mid} {at} room size least less a keeps p =
     push_lists _ _ (lists_kept _ old mid _ keeps a) (λ x b out. (outside_not at room at (omega arith) (omega arith) out, outside_not at room _ (omega arith) (omega arith) out)) (λ e. omega arith) p
 
 -- ---- the same layout

@@ -12,7 +12,7 @@ pub passed_there : (image : List ℕ) (P : List Chunk → Type 0) (at : ℕ) →
 passed_there image P at h p inside = chunk_there image h.0 p.front at h.1.tiles p.spelled inside
 
 pub passed_chunk : {image : List ℕ} {P : List Chunk → Type 0} {at : ℕ} → HeapAccepted image → Passed image P at → at < length image → HasChunk image at
-passed_chunk {image} {P} {at} h p inside = let c = passed_there _ P at h p inside in record { chunk = c.0; spelled = c.1 }
+passed_chunk {P} {at} h p inside = let c = passed_there _ P at h p inside in record { chunk = c.0; spelled = c.1 }
 
 pub passed_misses : {m : Memory} {P : List Chunk → Type 0} {at : ℕ} → HoldsHeap m → Passed m.bytes P at → at < length m.bytes → Misses m.lents at 8
 passed_misses {m} {at} h p inside = walked_misses m p.front at h.accepted h.lent p.spelled inside
@@ -73,6 +73,6 @@ free_fits_by (headers.Fixed length owner) = omega arith
 pub free_passed : {image : List ℕ} (count : ℕ) {at : ℕ} {header : Header} → Passed image (HaveFreeBytes count) at → HasHeader image at header → Passed image (HaveFreeBytes (count + free_by header)) (at + size_by header)
 free_passed {image} count {at} {header} p has =
     let one = sum_by-cons free_size has.chunk [] in
-    let more : free_by header ≡ free_size has.chunk = ap free_by has.header_is ∙ free_of has.chunk in
+    let more = ap free_by has.header_is ∙ free_of has.chunk in
     passed_more image (HaveFreeBytes count) (HaveFreeBytes (count + free_by header)) at header p has
     (sum_by-append free_size p.front (has.chunk ∷ []) ∙ (let none : sum_by free_size [] ≡ 0 = refl in omega arith))

@@ -28,7 +28,7 @@ keeps_within {old} {new} before c after {at} h g was is none w =
     let front_now = SpelledAll-same old new (area_start old) before at (wrote_apart old new (at + 4) (at + size_of c) (area_start old) at w (inl (omega arith))) len front in
     let there = chunk_there new (chunks_of new) before at (read_heap new g).tiles (rw (← start) at front_now) (omega arith) in
     let word = wrote_word_apart old new (at + 4) (at + size_of c) at w (inl (omega arith)) in
-    let sizes : size_of there.0 ≡ size_of c = first_size new at there.0 there.1 ∙ ap size_field word ∙ sym (first_size old at c m.spelled.0) in
+    let sizes = first_size new at there.0 there.1 ∙ ap size_field word ∙ sym (first_size old at c m.spelled.0) in
     let area : WroteArea old new at (at + (size_of c + 0)) = record { mid = new; slot = at; area = wide; word = wrote_none new at (at + 4); is_slot = inl refl; there = omega arith; fits = omega arith } in
     let r = area_replaces old new before (c ∷ []) (there.0 ∷ []) after at heap.tiles none is m.inside area (there.1, omega arith) in
     let tiles = replaced_tiles old new before (c ∷ []) (there.0 ∷ []) after at heap.tiles r in
@@ -40,7 +40,7 @@ pub named_apart : (name at : ℕ) (live : LiveChunk) {c : Chunk} {size : ℕ} �
 named_apart name at live n e = subst (λ d. NamedHere name live at d) e n
 
 pub keeps_found : {old new : List ℕ} {found : Found} → HeapAccepted old → HeapAccepted new → (f : IsOne old found) → WroteWithin old new (found.place.0 - 8 + 4) (found.place.0 - 8 + need found.length) → KeepsFree Any old new
-keeps_found {old} {new} {found} h g f w there any b =
+keeps_found {old} {found} h g f w there any b =
     let at : ℕ = found.place.0 - 8 in
     keeps_within _ _ _ h g f.finds.chunks f.finds.there (no_slots _ _ at _ f.finds.named) (rw (found_size old _ f) at w) there
     (live_apart at there f.chunk (λ size e. named_apart found.name.0 at f.live f.finds.named e)) b
@@ -63,7 +63,7 @@ keeps_body old new found at part h f within is =
 -- so the lists stay, where the region's value was the space's
 pub body_lists : (old region : Memory) (new heads : List ℕ) (found : Found) (at : ℕ) (part : List ℕ) → region ≡ old → HeapAccepted old.bytes → IsOne old.bytes found → at + length part ≤ found.length → new ≡ overwritten region.bytes (found.place.0 + at) part → HasLists region.bytes heads → HasLists new heads
 body_lists old region new heads found at part same h f within is lists =
-    lists_kept Any _ new _ (keeps_body _ new _ at part h f within (is ∙ ap (λ (m : Memory). overwritten m.bytes (found.place.0 + at) part) same)) (rw same at lists)
+    lists_kept Any _ new _ (keeps_body _ new _ at part h f within (is ∙ ap (λ m. overwritten m.bytes (found.place.0 + at) part) same)) (rw same at lists)
 
 -- ---- the directory word
 

@@ -9,7 +9,6 @@ use Rattle.heap_place.proofs.gather.gather_at.Goals as goal
 
 pub at_with_size-taken-requires : goal.at_with_size-taken-requires
 at_with_size-taken-requires c =
-    let most = c.requires.heap.accepted.1.tiles.head.most in
     record { chunk = bound_chunk c.requires.heap.accepted c.requires.bound c.requires.inside; small = omega arith; misses = bound_misses c.requires.heap c.requires.bound c.requires.inside }
 
 pub returns-then-size-eq0-clause-bound : goal.returns-then-size-eq0-clause-bound

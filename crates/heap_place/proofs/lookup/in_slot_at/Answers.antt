@@ -29,7 +29,7 @@ returns-in_default-clause-none c =
 pub returns-in_default-2-clause-none : goal.returns-in_default-2-clause-none
 returns-in_default-2-clause-none c =
     elsewhere_holds_none _ c.requires.heap.accepted (sym c.in-Some.is ∙ c.read.ensures.is) (sym c.as_movable.ensures ∙ c.in-Some-as_movable.is)
-    (λ holds. let none : u32_at c.args.region.now.bytes c.in-Some-as_movable.found.name.0 ≡ 0 = c.in_default.ensures holds.is_slot in omega arith)
+    (λ holds. let none = c.in_default.ensures holds.is_slot in omega arith)
 
 pub returns-then-not-may_read_header-clause-none : goal.returns-then-not-may_read_header-clause-none
 returns-then-not-may_read_header-clause-none c = none_begins_holds _ c.requires.heap.accepted (OnFalse_at c.if-not-may_read_header.true c.may_read_header.ensures.none)

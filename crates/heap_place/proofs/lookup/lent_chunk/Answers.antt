@@ -9,7 +9,6 @@ overflow_sub-place c = lent_low c.args.region.now c.args.place.0 c.requires.heap
 
 pub at-header-requires : goal.at-header-requires
 at-header-requires c =
-    let most = c.requires.heap.accepted.1.tiles.head.most in
     record { chunk = lent_has_chunk _ c.requires.heap c.requires.begins; small = omega arith; misses = lent_misses _ c.requires.heap c.requires.begins }
 
 pub fixed_at-requires-clause-fixed : goal.fixed_at-requires-clause-fixed

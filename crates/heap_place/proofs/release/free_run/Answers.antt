@@ -23,12 +23,10 @@ loop-size-smaller c = let r = run_inside c.requires.bound c.loop-size.invariant.
 
 pub free_size-size-requires : goal.free_size-size-requires
 free_size-size-requires c =
-    let most = c.requires.heap.accepted.1.tiles.head.most in
     record { small = omega arith; chunks = from_bound c.requires.heap.accepted c.requires.bound; misses = bound_misses c.requires.heap c.requires.bound }
 
 pub free_size-size-requires-in-loop-size : goal.free_size-size-requires-in-loop-size
 free_size-size-requires-in-loop-size c =
     let h = c.requires.heap.accepted in
-    let most = h.1.tiles.head.most in
     let i = c.loop-size.invariant in
     record { small = omega arith; chunks = from_running c.requires.bound i.0 (omega arith); misses = bound_misses c.requires.heap (bound_on h i.1 i.0.there (omega arith)) }
