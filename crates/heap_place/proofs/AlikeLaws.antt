@@ -1,5 +1,5 @@
 -- Where second words of free chunks alone were written, chunks and room are where they were.
-use Rattle.heap_place.proofs.Words.{◌≡◌, ◌≢◌, ℕ, ◌+◌, ◌^◌, ◌<◌, List, refl, sym, ap, subst, ◌∙◌, arith, u32_bytes, overwritten, Chunk, total, area_start, HeapAccepted, chunks_of, merged, Becomes, IsSpot, frame_start, frame_then, same_frame, plain_same, Found, RunBehind, Resizes, class_count, IsOfClass, IsFreeOf, second_of, AreLists, HasLists, ButAt, Outside, IsFreeChunk, Links, CutsRoom, SameChunks, LeadsTo, Looking}
+use Rattle.heap_place.proofs.Words.{◌≡◌, ◌≢◌, ℕ, ◌+◌, ◌^◌, ◌<◌, List, refl, sym, ap, ◌∙◌, arith, u32_bytes, overwritten, Chunk, total, area_start, HeapAccepted, chunks_of, merged, Becomes, IsSpot, frame_start, frame_then, same_frame, plain_same, Found, RunBehind, Resizes, class_count, IsOfClass, IsFreeOf, second_of, AreLists, HasLists, ButAt, Outside, IsFreeChunk, Links, CutsRoom, SameChunks, LeadsTo}
 use Rattle.heap_place.proofs.ListLaws.{lists_weaker}
 use Rattle.heap_place.proofs.KeepLaws.{others_outside, free_there, begins_there, linked, links_plain, links_chunk}
 use Rattle.heap_place.proofs.SpliceLaws.{splice_lists, not_listed, looked_free}
@@ -11,7 +11,8 @@ no_words {old} h = record { frame = same_frame old h; chunks = refl; plain = pla
 pub one_word : {old new : List ℕ} {at word : ℕ} → Links old new at word → SameChunks old new
 one_word {old} {new} {at} {word} l = record { frame = l.frame; chunks = l.chunks; plain = links_plain old new at word l }
 
-alike_at : {old new : List ℕ} {at : ℕ} (before : List Chunk) → SameChunks old new → at ≡ area_start old + total before → at ≡ area_start new + total before
+alike_at : {old new : List ℕ} {at : ℕ} (before : List Chunk) → SameChunks old new
+    → at ≡ area_start old + total before → at ≡ area_start new + total before
 alike_at {old} {new} before s there = there ∙ ap (λ n. n + total before) (sym (frame_start old new s.frame))
 
 pub alike_chunk : {old new : List ℕ} {at size : ℕ} → SameChunks old new → IsFreeChunk old at size → IsFreeChunk new at size
@@ -20,19 +21,21 @@ alike_chunk s f = record { before = f.before; after = _; chunks = s.chunks ∙ f
 pub alike_spot : (old new : List ℕ) (at size : ℕ) → SameChunks old new → IsSpot old at size → IsSpot new at size
 alike_spot old new at size s r = record { before = r.before; run = r.run; after = _; chunks = s.chunks ∙ r.chunks; all_free = r.all_free; there = alike_at _ s r.there; sums = r.sums }
 
-pub alike_cuts : {old mid : List ℕ} (new : List ℕ) (at room size : ℕ) → SameChunks old mid → CutsRoom mid new at room size → CutsRoom old new at room size
+pub alike_cuts : {old mid : List ℕ} (new : List ℕ) (at room size : ℕ) → SameChunks old mid
+    → CutsRoom mid new at room size → CutsRoom old new at room size
 unfolding alike_spot
 alike_cuts {old} {mid} new at room size s cuts r = cuts (alike_spot old mid at room s r)
 
-pub alike_becomes : {old mid new : List ℕ} → SameChunks old mid → Becomes mid new (chunks_of mid) → Becomes old new (chunks_of old)
+pub alike_becomes : {old mid new : List ℕ} → SameChunks old mid → Becomes mid new (chunks_of mid)
+    → Becomes old new (chunks_of old)
 alike_becomes {old} {mid} {new} s b = record { frame = frame_then old mid new s.frame b.frame; layout = b.layout ∙ ap merged s.chunks }
 
 -- ---- a chunk that was found, and the free ones after it
 
-pub alike_behind : (old new : List ℕ) (found : Found) (behind : ℕ) → SameChunks old new → RunBehind old found behind → RunBehind new found behind
+pub alike_behind : (old new : List ℕ) (found : Found) (behind : ℕ) → SameChunks old new
+    → RunBehind old found behind → RunBehind new found behind
 alike_behind old new found behind s r =
-    let o = r.one in
-    let f = o.finds in
+    let o = r.one in let f = o.finds in
     record {
       one = record {
         live = o.live;
@@ -51,7 +54,8 @@ alike_behind old new found behind s r =
       sums = r.sums;
     }
 
-pub alike_resizes : (old mid new : List ℕ) (found : Found) (count behind : ℕ) → SameChunks old mid → Resizes mid new found count behind → Resizes old new found count behind
+pub alike_resizes : (old mid new : List ℕ) (found : Found) (count behind : ℕ) → SameChunks old mid
+    → Resizes mid new found count behind → Resizes old new found count behind
 unfolding alike_behind
 alike_resizes old mid new found count behind s x r =
     let b = x (alike_behind old mid found behind s r) in
@@ -59,7 +63,8 @@ alike_resizes old mid new found count behind s x r =
 
 -- ---- a chunk that is taken out of its list
 
-pub chunk_of_class : {image : List ℕ} {class at size : ℕ} → HeapAccepted image → IsFreeChunk image at size → IsOfClass class size → IsFreeOf image class at
+pub chunk_of_class : {image : List ℕ} {class at size : ℕ} → HeapAccepted image
+    → IsFreeChunk image at size → IsOfClass class size → IsFreeOf image class at
 chunk_of_class {image} {at} {size} h f of_class =
     record {
       begins = begins_there f;
@@ -68,7 +73,8 @@ chunk_of_class {image} {at} {size} h f of_class =
     }
 
 -- what is not that chunk lies outside of it
-pub taken_outside : {old new heads : List ℕ} {at size : ℕ} → SameChunks old new → IsFreeChunk old at size → AreLists (ButAt at) new heads → AreLists (Outside at size) new heads
+pub taken_outside : {old new heads : List ℕ} {at size : ℕ} → SameChunks old new
+    → IsFreeChunk old at size → AreLists (ButAt at) new heads → AreLists (Outside at size) new heads
 taken_outside {new} {size} s f lists =
     let g = alike_chunk s f in
     lists_weaker _ _ new _ (λ x b apart. others_outside _ size _ x s.frame.accepted g.chunks g.there b apart) lists

@@ -1,12 +1,11 @@
 -- A live chunk of an accepted heap gets another lock count, another owner or other bytes.
-use Rattle.heap_place.proofs.Words.{◌≡◌, ℕ, zero, suc, ◌+◌, ◌-◌, ◌<◌, ◌≤◌, List, [], ◌∷◌, ◌++◌, length, refl, sym, ap, subst, ◌∙◌, arith, inl, inr, ◌⊎◌, u32_bytes, overwritten, Chunk, free, movable, fixed, fixed_lock, HeapAccepted, LiveChunk, Finds, Becomes, Alters, with_lock, with_owner, with_bytes, WritesPlain, WroteWithin, wrote_word, wrote_wider, fixed_live_is, fixed_owned, finds_spelled, exchanges_parts, named_live_chunk, body_written, movable_relabelled, fixed_relabelled, Relocks, Reowns, Found, IsOne, CanGoTo, same_lock, same_owner}
+use Rattle.heap_place.proofs.Words.{◌≡◌, ℕ, zero, suc, ◌+◌, ◌-◌, ◌<◌, ◌≤◌, List, [], ◌∷◌, ◌++◌, length, refl, sym, ap, ◌∙◌, arith, inl, inr, ◌⊎◌, u32_bytes, overwritten, Chunk, free, movable, fixed, fixed_lock, HeapAccepted, LiveChunk, Finds, Becomes, Alters, with_lock, with_owner, with_bytes, WritesPlain, WroteWithin, wrote_word, wrote_wider, fixed_live_is, fixed_owned, finds_spelled, exchanges_parts, named_live_chunk, body_written, movable_relabelled, fixed_relabelled, Relocks, Reowns, Found, IsOne, CanGoTo, same_lock, same_owner}
 use Rattle.heap_place.proofs.FoundLaws.{Fields, fields_of, bytes_inside}
 
 -- the second word was written
 wrote_second : {old new : List ℕ} {found : Found} (word : ℕ) → HeapAccepted old → IsOne old found → new ≡ overwritten old (found.place.0 - 8 + 4) (u32_bytes word) → WroteWithin old new (found.place.0 - 8) (found.place.0 - 8 + 8)
 wrote_second {old} {new} {found} word h f is =
-    let at : ℕ = found.place.0 - 8 in
-    let inside = bytes_inside old found h f in
+    let at : ℕ = found.place.0 - 8 in let inside = bytes_inside old found h f in
     wrote_wider old new _ _ at _ (wrote_word old new _ word is (omega arith)) (omega arith) (omega arith)
 
 -- a chunk that was found is changed, where the rest is as it was

@@ -1,5 +1,5 @@
 -- What the writes of cutting off room and of claiming it do to an accepted heap.
-use Rattle.heap_place.proofs.Words.{◌≡◌, ℕ, zero, suc, ◌+◌, ◌-◌, ◌*◌, ◌%◌, ◌^◌, ◌<◌, ◌≤◌, List, [], ◌∷◌, ◌++◌, length, take, drop, replicate, refl, sym, ap, subst, ◌∙◌, arith, inl, inr, length-append, slice_range, length-replicate, drop_all, append-nil, u32_at, u32_bytes, Chunk, free, movable, fixed, fixed_lock, need, total, IsFree, IsLive, Spelled, SpelledAll, IsSlot, TablesLie, area_start, HeapAccepted, chunks_of, AnyPlaced, merged, Becomes, gap, IsSpot, IsPlain, IsFreeAt, WritesPlain, u32_at-written, slice-same, slice-overwritten, length-u32_bytes, Spelled-same, seen-movable, plain-callers, chunks_of-tiled, slot_facts, free_hold_none, slot_beside, replaced_total, same_start, WroteWithin, wrote_none, wrote_part, wrote_word, wrote_wider, wrote_then, wrote_apart, wrote_word_apart, WroteArea, area_replaces, wrote_slots, area_slots, beside_same, beside_word, table_kept, free_replaced, OtherSlots, claimed, merged-left, merged-right, runs-merged, becomes_heap, becomes_alike, gap_free, free_plain, lives_plain, replaced_plain, overwritten_body, claimed_fixed, header_of, HasHeader, header_words, live_words, h_offset_to, WroteRest, IsFreeChunk, KeepsFree, Outside, ButAt}
+use Rattle.heap_place.proofs.Words.{◌≡◌, ℕ, zero, suc, ◌+◌, ◌-◌, ◌*◌, ◌%◌, ◌^◌, ◌<◌, ◌≤◌, List, [], ◌∷◌, ◌++◌, length, take, drop, replicate, refl, sym, ap, subst, ◌∙◌, arith, inl, inr, length-append, slice_range, length-replicate, drop_all, append-nil, u32_at, u32_bytes, Chunk, free, movable, fixed, fixed_lock, need, total, IsFree, Spelled, SpelledAll, IsSlot, TablesLie, area_start, HeapAccepted, chunks_of, AnyPlaced, merged, Becomes, gap, IsSpot, IsPlain, IsFreeAt, WritesPlain, u32_at-written, slice-same, slice-overwritten, length-u32_bytes, Spelled-same, seen-movable, plain-callers, chunks_of-tiled, slot_facts, free_hold_none, slot_beside, replaced_total, WroteWithin, wrote_none, wrote_part, wrote_word, wrote_wider, wrote_then, wrote_apart, wrote_word_apart, WroteArea, area_replaces, wrote_slots, area_slots, beside_same, beside_word, table_kept, free_replaced, OtherSlots, claimed, merged-left, merged-right, runs-merged, becomes_heap, becomes_alike, gap_free, free_plain, lives_plain, replaced_plain, overwritten_body, claimed_fixed, header_of, HasHeader, header_words, live_words, h_offset_to, WroteRest, IsFreeChunk, KeepsFree, Outside, ButAt}
 use Rattle.heap_model.specs.Bytes.{overwritten}
 use Rattle.chunk_format.specs.declared.header.Header.TheVariants as headers
 use Rattle.heap_place.proofs.FoundLaws.{heap_in_parts, middle_of, chunk_middle}
@@ -52,8 +52,7 @@ pub was_cut : {old : List ℕ} (mid : List ℕ) {new : List ℕ} {at room : ℕ}
 was_cut {old} mid {new} {at} {room} size accepted r least whole within wrote is header =
     let heap = heap_in_parts old (r.before ++ (r.run ++ r.after)) accepted r.chunks in
     let m = middle_of old r.before r.run r.after at heap r.there in
-    let sums : room ≡ total r.run = r.sums in
-    let rest : ℕ = room - size in
+    let sums : room ≡ total r.run = r.sums in let rest : ℕ = room - size in
     let first = rest_within old mid (at + size) rest at (at + room) wrote (omega arith) (omega arith) (omega arith) (omega arith) in
     let len_mid = first.len in
     let second = wrote_word mid new at (2 ^ 31 + size) is (omega arith) in
@@ -76,12 +75,14 @@ was_cut {old} mid {new} {at} {room} size accepted r least whole within wrote is 
     )
 
 -- where room lies
-pub room_facts : (image : List ℕ) (at size : ℕ) → HeapAccepted image → IsSpot image at size → (at + size ≤ length image) × (size % 8 ≡ 0) × (length image ≤ 16777208)
+pub room_facts : (image : List ℕ) (at size : ℕ) → HeapAccepted image → IsSpot image at size
+    → (at + size ≤ length image) × (size % 8 ≡ 0) × (length image ≤ 16777208)
 room_facts image at size accepted r =
     let m = middle_of image r.before r.run r.after at (heap_in_parts image (r.before ++ (r.run ++ r.after)) accepted r.chunks) r.there in
     (omega arith, omega arith, m.most)
 
-pub rest_length : (old new : List ℕ) (at size : ℕ) → WroteRest old new at size → at + size ≤ length old → size % 8 ≡ 0 → length new ≡ length old
+pub rest_length : (old new : List ℕ) (at size : ℕ) → WroteRest old new at size
+    → at + size ≤ length old → size % 8 ≡ 0 → length new ≡ length old
 rest_length old new at size w inside whole = (rest_within old new at size at _ w (omega arith) (omega arith) inside whole).len
 
 -- ---- a free chunk is claimed
@@ -89,19 +90,18 @@ rest_length old new at size w inside whole = (rest_within old new at size at _ w
 -- where a free chunk lies that was cut off
 pub cut_facts : {image : List ℕ} {size at : ℕ} → HeapAccepted image → IsFreeChunk image at size → (at + size ≤ length image) × (area_start image ≤ at) × (at % 8 ≡ 0) × (length image ≤ 16777208)
 cut_facts accepted r =
-    let m = chunk_middle accepted r in
-    (omega arith, omega arith, m.start_whole, m.most)
+    let m = chunk_middle accepted r in (omega arith, omega arith, m.start_whole, m.most)
 
 pub header_movable : (count lock owner slot : ℕ) (c : Chunk) → headers.Movable count lock owner slot ≡ header_of c → (bytes : List ℕ) × ((c ≡ movable bytes lock owner slot) × (length bytes ≡ count))
 header_movable count lock owner slot (free n) e = absurd cc
 header_movable count lock owner slot (fixed bytes v) e = absurd cc
 header_movable count lock owner slot (movable bytes l v s) e =
-    let n : count ≡ length bytes = cc in
-    (bytes, (cc, sym n))
+    let n : count ≡ length bytes = cc in (bytes, (cc, sym n))
 
 -- the header of a chunk, and zeros after it
 zeroed : {h : List ℕ} (new : List ℕ) {at : ℕ} (count lock owner slot : ℕ) → HasHeader h at (headers.Movable count lock owner slot) → length new ≡ length h → u32_at new at ≡ u32_at h at → u32_at new (at + 4) ≡ u32_at h (at + 4)
-    → slice_range new (at + 8) (at + 8 + count) ≡ replicate count 0 → Spelled new at (movable (replicate count 0) lock owner slot)
+    → slice_range new (at + 8) (at + 8 + count) ≡ replicate count 0
+    → Spelled new at (movable (replicate count 0) lock owner slot)
 zeroed {h} new {at} count lock owner slot found len first second body =
     let m = header_movable count lock owner slot found.chunk found.header_is in
     let s = subst (λ c. Spelled h at c) m.1.0 found.spelled in
@@ -146,18 +146,17 @@ pub claimed_table : {old h z : List ℕ} {at : ℕ} (count owner : ℕ) {slot : 
 claimed_table {old} {z} {at} count owner {slot} accepted r s h_is z_is =
     let size : ℕ = need count in
     let heap = heap_in_parts old (r.before ++ free size ∷ r.after) accepted r.chunks in
-    let facts = cut_facts accepted r in
-    let e : size ≡ size + 0 = omega arith in
+    let facts = cut_facts accepted r in let e : size ≡ size + 0 = omega arith in
     table_kept old z r.before (free size ∷ []) r.after at slot heap.tiles tt r.there (rw e at (claimed_area old at count owner slot facts.0 h_is z_is)) s
 
-pub claimed_write : {old h z new : List ℕ} {at : ℕ} (count owner : ℕ) {slot : ℕ} → HeapAccepted old → (r : IsFreeChunk old at (need count)) → IsSlot old slot → u32_at old slot ≡ 0
+pub claimed_write : {old h z new : List ℕ} {at : ℕ} (count owner : ℕ) {slot : ℕ} → HeapAccepted old
+    → (r : IsFreeChunk old at (need count)) → IsSlot old slot → u32_at old slot ≡ 0
     → h ≡ overwritten old at (live_words count 0 owner (h_offset_to at slot)) → HasHeader h at (headers.Movable count 0 owner slot) → z ≡ overwritten h (at + 8) (replicate count 0) → new ≡ overwritten z slot (u32_bytes (at + 8))
     → Becomes old new (r.before ++ movable (replicate count 0) 0 owner slot ∷ r.after) × KeepsFree (ButAt at) old new × WritesPlain old new
 claimed_write {old} {h} {z} {new} {at} count owner {slot} accepted r s empty h_is header z_is new_is =
     let size : ℕ = need count in
     let heap = heap_in_parts old (r.before ++ free size ∷ r.after) accepted r.chunks in
-    let facts = cut_facts accepted r in
-    let inside = facts.0 in
+    let facts = cut_facts accepted r in let inside = facts.0 in
     let slot_inside = (slot_facts old _ slot accepted.1.tiles s).inside in
     let beside = slot_beside old r.before (free size ∷ []) r.after at slot heap.tiles tt r.there s in
     let eight = live_words_length count 0 owner (h_offset_to at slot) in
@@ -187,18 +186,19 @@ claimed_write {old} {h} {z} {new} {at} count owner {slot} accepted r s empty h_i
 
 -- ---- a fixed chunk is claimed
 
-pub header_fixed : (count owner : ℕ) (c : Chunk) → headers.Fixed count owner ≡ header_of c → (bytes : List ℕ) × ((c ≡ fixed bytes owner) × (length bytes ≡ count))
+pub header_fixed : (count owner : ℕ) (c : Chunk) → headers.Fixed count owner ≡ header_of c
+    → (bytes : List ℕ) × ((c ≡ fixed bytes owner) × (length bytes ≡ count))
 header_fixed count owner (free n) e = absurd cc
 header_fixed count owner (movable bytes l v s) e = absurd cc
 header_fixed count owner (fixed bytes v) e =
-    let n : count ≡ length bytes = cc in
-    (bytes, (cc, sym n))
+    let n : count ≡ length bytes = cc in (bytes, (cc, sym n))
 
 overwritten_whole : (old part : List ℕ) → length part ≡ length old → overwritten old 0 part ≡ part
 unfolding overwritten
 overwritten_whole old part len = let all : length old ≤ 0 + length part = omega arith in rw (drop_all (0 + length part) old all) (append-nil part)
 
-pub wrote_words : (old new : List ℕ) (at count lock owner way : ℕ) → at + need count ≤ length old → new ≡ overwritten old at (live_words count lock owner way) → WroteWithin old new at (at + 8)
+pub wrote_words : (old new : List ℕ) (at count lock owner way : ℕ) → at + need count ≤ length old
+    → new ≡ overwritten old at (live_words count lock owner way) → WroteWithin old new at (at + 8)
 wrote_words old new at count lock owner way inside is =
     let eight = live_words_length count lock owner way in
     subst (λ n. WroteWithin old new at (at + n)) eight (wrote_part old new at _ is (omega arith))
@@ -207,13 +207,11 @@ pub fixed_claimed : {old mid new : List ℕ} {at : ℕ} (count owner : ℕ) → 
     → new ≡ overwritten mid (at + 8) (replicate count 0) → Becomes old new (r.before ++ fixed (replicate count 0) owner ∷ r.after) × KeepsFree (ButAt at) old new × WritesPlain old new
 fixed_claimed {old} {mid} {new} {at} count owner h r some most mid_is header new_is =
     let heap = heap_in_parts old (r.before ++ free (need count) ∷ r.after) h r.chunks in
-    let facts = cut_facts h r in
-    let inside = facts.0 in
+    let facts = cut_facts h r in let inside = facts.0 in
     let zeros : length (replicate {A = ℕ} count 0) ≡ count = length-replicate count 0 in
     let m = header_fixed count owner header.chunk header.header_is in
     let s = subst (λ c. Spelled mid at c) m.1.0 header.spelled in
-    let len : length m.0 ≡ count = m.1.1 in
-    let front : at + 8 ≡ at + 8 + 0 = omega arith in
+    let len : length m.0 ≡ count = m.1.1 in let front : at + 8 ≡ at + 8 + 0 = omega arith in
     let b = overwritten_body mid new at 0 m.0 (replicate count 0) _ owner 0 (plain-callers fixed_lock owner some) s (omega arith) (new_is ∙ ap (λ n. overwritten mid n (replicate count 0)) front) in
     let spelled = rw (overwritten_whole m.0 (replicate count 0) (zeros ∙ sym len)) at b.0 in
     let first = wrote_wider old mid at (at + 8) at (at + need count) (wrote_words old mid at count fixed_lock owner 0 inside mid_is) (omega arith) (omega arith) in

@@ -12,8 +12,7 @@ pub total_whole : (image : List ℕ) (at : ℕ) (cs : List Chunk) (end : ℕ) �
 total_whole image at [] end s = refl
 total_whole image at (c ∷ cs) end s =
     let ih = total_whole image (at + size_of c) cs end s.1 in
-    let whole = (Spelled-size image at c s.0).2 in
-    omega arith
+    let whole = (Spelled-size image at c s.0).2 in omega arith
 
 -- some chunks of a heap, where they stand
 pub record Middle (image : List ℕ) (before mid after : List Chunk) (at : ℕ) : Type 0 where
@@ -43,7 +42,8 @@ middle_of image before mid after at h e =
     }
 
 -- a free chunk, where it stands
-pub chunk_middle : {image : List ℕ} {at size : ℕ} → HeapAccepted image → (f : IsFreeChunk image at size) → Middle image f.before (free size ∷ []) f.after at
+pub chunk_middle : {image : List ℕ} {at size : ℕ} → HeapAccepted image
+    → (f : IsFreeChunk image at size) → Middle image f.before (free size ∷ []) f.after at
 chunk_middle {at} h f = middle_of _ _ _ _ at (heap_in_parts _ _ h f.chunks) f.there
 
 -- a chunk of a name, where it stands
@@ -81,17 +81,19 @@ pub found_size : (image : List ℕ) (found : Found) → (f : IsOne image found) 
 found_size image found f = ap need f.count ∙ named_size _ _ _ _ f.finds.named
 
 -- where it lies
-pub found_inside : (image : List ℕ) (found : Found) → HeapAccepted image → IsOne image found → found.place.0 - 8 + need found.length ≤ length image
+pub found_inside : (image : List ℕ) (found : Found) → HeapAccepted image → IsOne image found
+    → found.place.0 - 8 + need found.length ≤ length image
 found_inside image found h f =
     let size = found_size image found f in
-    let inside = (Spelled-size _ _ _ (finds_spelled _ _ _ _ _ h f.finds)).1 in
-    omega arith
+    let inside = (Spelled-size _ _ _ (finds_spelled _ _ _ _ _ h f.finds)).1 in omega arith
 
 -- what its name stands for
-pub name_held : (image : List ℕ) (name : ℕ) (found : Found) → HeapAccepted image → (f : IsFound image name found) → held image name ≡ Some f.live
+pub name_held : (image : List ℕ) (name : ℕ) (found : Found) → HeapAccepted image
+    → (f : IsFound image name found) → held image name ≡ Some f.live
 name_held image name found h f = finds_held image name f.live f.chunk _ h f.finds
 
-pub one_held : (image : List ℕ) (found : Found) → HeapAccepted image → (f : IsOne image found) → held image found.name.0 ≡ Some f.live
+pub one_held : (image : List ℕ) (found : Found) → HeapAccepted image → (f : IsOne image found)
+    → held image found.name.0 ≡ Some f.live
 one_held image found h f = name_held image _ found h f
 
 -- where it isn't fixed it is movable
@@ -105,7 +107,6 @@ when_movable image name found f P loose of_movable = by_chunk f.chunk f.finds wh
 
 -- ---- its bytes
 
-pub bytes_inside : (image : List ℕ) (found : Found) → HeapAccepted image → IsOne image found → found.place.0 + found.length ≤ length image
-bytes_inside image found h f =
-    let inside = (finds_body _ _ _ _ _ h f.finds).inside in
-    omega arith
+pub bytes_inside : (image : List ℕ) (found : Found) → HeapAccepted image → IsOne image found
+    → found.place.0 + found.length ≤ length image
+bytes_inside image found h f = let inside = (finds_body _ _ _ _ _ h f.finds).inside in omega arith

@@ -1,6 +1,6 @@
 -- What keeps the free chunks with their two words: chunks that are replaced by others keep all but
 -- those among them, and the second word of a free chunk is written.
-use Rattle.heap_place.proofs.Words.{◌≡◌, ◌≢◌, ℕ, ◌+◌, ◌%◌, ◌^◌, ◌<◌, ◌≤◌, List, [], ◌∷◌, ◌++◌, length, refl, sym, ap, subst, ◌∙◌, arith, inl, inr, slice_index, slice_set, u32_at, u32_bytes, overwritten, Chunk, free, total, IsFree, area_start, HeapAccepted, Tiles, IsHeap, chunks_of, EveryPlaced, AnyPlaced, IsFreeAt, BeginsFree, WritesPlain, u32_at-written, chunks_of-tiled, TakesBytes, SpelledAll-takes, EveryPlaced-split, AnyPlaced-left, AnyPlaced-right, AnyPlaced-split, AnyPlaced-mid, Replaces, replaced_total, same_start, wrote_none, wrote_word, wrote_wider, wrote_word_apart, WroteArea, area_replaces, wrote_slots, free_replaced, frame_start, becomes_heap, free_inside, free_word, IsOfClass, class_count, ButAt, Outside, KeepsFree, IsFreeChunk, Links, Pushes, cases_eq}
+use Rattle.heap_place.proofs.Words.{◌≡◌, ◌≢◌, ℕ, ◌+◌, ◌%◌, ◌^◌, ◌<◌, ◌≤◌, List, [], ◌∷◌, ◌++◌, refl, sym, ap, subst, ◌∙◌, arith, inl, inr, slice_index, slice_set, u32_at, u32_bytes, overwritten, Chunk, free, total, IsFree, area_start, HeapAccepted, Tiles, IsHeap, chunks_of, EveryPlaced, AnyPlaced, IsFreeAt, BeginsFree, WritesPlain, u32_at-written, chunks_of-tiled, TakesBytes, SpelledAll-takes, EveryPlaced-split, AnyPlaced-left, AnyPlaced-right, AnyPlaced-split, AnyPlaced-mid, Replaces, replaced_total, same_start, wrote_none, wrote_word, wrote_wider, wrote_word_apart, WroteArea, area_replaces, wrote_slots, free_replaced, frame_start, becomes_heap, free_inside, free_word, IsOfClass, class_count, ButAt, Outside, KeepsFree, IsFreeChunk, Links, Pushes, cases_eq}
 use Rattle.heap_place.proofs.FoundLaws.{heap_in_parts, middle_of, chunk_middle}
 
 -- ---- chunks that are replaced
@@ -20,8 +20,7 @@ keeps_tiled {old} {new} {before} {mid} {others} {after} {at} was now r there apa
   | inr rest ↦ elim (AnyPlaced-split (IsFreeAt there) (start + total before) mid after rest) [
     | inl these ↦ absurd (apart (subst (λ n. AnyPlaced (IsFreeAt there) n mid) (sym begins) these))
     | inr back ↦
-        let behind = rw (← begins) at back in
-        let moved = rw (← sums) at back in
+        let behind = rw (← begins) at back in let moved = rw (← sums) at back in
         record {
           begins = is (AnyPlaced-right (IsFreeAt there) start before (others ++ after) (AnyPlaced-right (IsFreeAt there) (start + total before) others after moved));
           first = free_word old new there (at + total mid) after r.back.words behind;
@@ -119,20 +118,21 @@ linked {old} {new} {at} {size} word h f small is =
 pub links_start : {old new : List ℕ} {at word : ℕ} → Links old new at word → area_start new ≡ area_start old
 links_start {old} {new} l = frame_start old new l.frame
 
-pub links_begin : {old new : List ℕ} {at word : ℕ} (there : ℕ) → Links old new at word → BeginsFree new there → BeginsFree old there
+pub links_begin : {old new : List ℕ} {at word : ℕ} (there : ℕ) → Links old new at word
+    → BeginsFree new there → BeginsFree old there
 links_begin there l b = rw l.chunks at (rw (links_start l) at b)
 
 pub links_plain : (old new : List ℕ) (at word : ℕ) → Links old new at word → WritesPlain old new
 links_plain old new at word l there b = let was = links_begin _ l b in inr (was, l.firsts there was)
 
-pub links_chunk : {old new : List ℕ} {at word there size : ℕ} → Links old new at word → IsFreeChunk old there size → IsFreeChunk new there size
+pub links_chunk : {old new : List ℕ} {at word there size : ℕ} → Links old new at word
+    → IsFreeChunk old there size → IsFreeChunk new there size
 links_chunk {there} l f = record { before = f.before; after = f.after; chunks = l.chunks ∙ f.chunks; there = f.there ∙ ap (λ n. n + total f.before) (sym (links_start l)) }
 
 pub was_pushed : {old new : List ℕ} (heads : List ℕ) {after : List ℕ} {at size class : ℕ} → HeapAccepted old → IsFreeChunk old at size → class < class_count → IsOfClass class size → slice_index heads class < 2 ^ 32 → new ≡ overwritten old (at + 4) (u32_bytes (slice_index heads class)) → after ≡ slice_set heads class at
     → Pushes old new heads after at
 was_pushed {new} heads {at} {size} {class} h f below of_class small is head =
-    let l = linked (slice_index heads class) h f small is in
-    let now = links_chunk l f in
+    let l = linked (slice_index heads class) h f small is in let now = links_chunk l f in
     let spelled = free_there new at size l.frame.accepted now in
     record {
       class = class;

@@ -1,10 +1,9 @@
 -- The chunk whose body is lent, by its place.
-use Rattle.heap_place.proofs.Words.{◌≡◌, ℕ, zero, suc, ◌+◌, ◌-◌, ◌≤◌, List, ◌∷◌, ◌++◌, length, Some, None, refl, sym, ap, subst, ◌∙◌, arith, Memory, Lent, Misses, Chunk, free, movable, fixed, total, HasChunk, area_start, HeapAccepted, LiveChunk, chunks_of, Finds, LentHere, IsLentBody, LendsBodies, LentChunk, lent_chunk, some_gives, header_misses, fixed_live, finds_read, finds_spelled, finds_place, Header, header_of, Found, IsFound, IsOne, IsFixed, found_if_movable, some_same, HoldsHeap}
+use Rattle.heap_place.proofs.Words.{◌≡◌, ℕ, zero, suc, ◌+◌, ◌-◌, ◌≤◌, List, ◌∷◌, ◌++◌, Some, None, refl, sym, ap, subst, ◌∙◌, arith, Memory, Lent, Misses, Chunk, free, movable, fixed, total, HasChunk, area_start, HeapAccepted, LiveChunk, chunks_of, Finds, LentHere, LendsBodies, LentChunk, lent_chunk, some_gives, header_misses, fixed_live, finds_read, finds_spelled, finds_place, Header, header_of, Found, IsFound, IsOne, IsFixed, found_if_movable, some_same, HoldsHeap}
 use Rattle.heap_place.proofs.LookupLaws.{ReadsHeader}
 use Rattle.std.specs.Option.{option_map}
 use Rattle.heap_model.specs.declared.names.Place.{Place}
 use Rattle.raw_region.specs.Marks.{BeginsAt}
-use Rattle.chunk_format.specs.declared.header.Header.TheVariants as headers
 
 -- ---- the chunk
 
@@ -16,7 +15,8 @@ record LentAt (image : List ℕ) (place : ℕ) : Type 0 where
 lent_at : (m : Memory) (place : ℕ) → LendsBodies m → BeginsAt place m.lents → LentAt m.bytes place
 lent_at m place l begins = some_gives (λ y. y.at ≡ place) _ _ l begins (λ y body at. record { lent = y; at = at; body = lent_chunk _ y body })
 
-header_there : {image : List ℕ} {place : ℕ} (x : LentAt image place) → (place - 8 ≡ area_start image + total x.body.before) × (8 ≤ place)
+header_there : {image : List ℕ} {place : ℕ} (x : LentAt image place)
+    → (place - 8 ≡ area_start image + total x.body.before) × (8 ≤ place)
 header_there x = (omega arith, omega arith)
 
 -- it is movable and in the slot that it names, or fixed
@@ -29,7 +29,8 @@ named_lent {image} {place} x = by x.body.chunk x.body.chunks x.body.here where
   again : place - 8 + 8 ≡ place
   again = let low = (header_there x).1 in omega arith
 
-  by : (c : Chunk) → chunks_of image ≡ x.body.before ++ c ∷ x.body.after → LentHere x.lent (area_start image + total x.body.before) c → NamedLent image place
+  by : (c : Chunk) → chunks_of image ≡ x.body.before ++ c ∷ x.body.after
+      → LentHere x.lent (area_start image + total x.body.before) c → NamedLent image place
   by (free size) e here = absurd here
   by (movable bytes zero owner slot) e here = absurd here
   by (movable bytes (suc lock) owner slot) e here = lent_movable bytes (suc lock) owner slot (record { before = x.body.before; after = x.body.after; chunks = e; there = (header_there x).0; named = (refl, refl) })
@@ -62,13 +63,11 @@ movable_one {image} place {found} h low (lent_movable bytes lock owner slot f) r
     let of_chunk = ap (λ x. found_if_movable x place) (sym (header_is _ h f read)) ∙ is in
     subst (λ x. IsOne image x) (some_same of_chunk) (record { live = _; chunk = movable bytes lock owner slot; finds = f; behind_header = low; name_is = refl; count = refl; lock_is = refl; owner_is = refl })
 movable_one place {found} h low (lent_fixed bytes owner f) read is =
-    let none = ap (λ x. found_if_movable x place) (sym (header_is _ h f read)) ∙ is in
-    absurd cc
+    let none = ap (λ x. found_if_movable x place) (sym (header_is _ h f read)) ∙ is in absurd cc
 
 fixed_one : {image : List ℕ} (place : Place) {header : Header} → HeapAccepted image → 8 ≤ place.0 → NamedLent image place.0 → ReadsHeader image (place.0 - 8) header → found_if_movable header place ≡ None → IsFixed image place.0
 fixed_one place h low (lent_movable bytes lock owner slot f) read is =
-    let some = ap (λ x. found_if_movable x place) (sym (header_is _ h f read)) ∙ is in
-    absurd cc
+    let some = ap (λ x. found_if_movable x place) (sym (header_is _ h f read)) ∙ is in absurd cc
 fixed_one place h low (lent_fixed bytes owner f) read is = record { live = fixed_live bytes owner; bytes = bytes; owner = owner; finds = f; behind_header = low }
 
 pub lent_movable_one : {m : Memory} (place : Place) {header : Header} {found : Found} → HoldsHeap m → BeginsAt place.0 m.lents → ReadsHeader m.bytes (place.0 - 8) header → found_if_movable header place ≡ Some found → IsOne m.bytes found
@@ -78,9 +77,9 @@ pub lent_fixed_one : {m : Memory} (place : Place) {header : Header} → HoldsHea
 lent_fixed_one {m} place h begins read is = fixed_one _ h.accepted (lent_low m _ h.lent begins) (named_lent (lent_at m _ h.lent begins)) read is
 
 -- the fixed chunk of a name is at the place that its name says
-pub fixed_at_place : {image : List ℕ} {place : ℕ} {found : Found} → HeapAccepted image → IsFixed image place → IsFound image place found → found.place.0 ≡ place
+pub fixed_at_place : {image : List ℕ} {place : ℕ} {found : Found} → HeapAccepted image
+    → IsFixed image place → IsFound image place found → found.place.0 ≡ place
 fixed_at_place {image} {place} h i f =
     let here = finds_place image place i.live (fixed i.bytes i.owner) _ h i.finds in
     let there = finds_place image place f.live f.chunk _ h f.finds in
-    let same = some_same (sym here ∙ there) in
-    omega arith
+    let same = some_same (sym here ∙ there) in omega arith

@@ -1,14 +1,16 @@
 -- What is lent is missed by what is done to a chunk that is found, and stays a body.
-use Rattle.heap_place.proofs.Words.{◌≡◌, ◌≢◌, ℕ, zero, suc, ◌+◌, ◌-◌, ◌≤◌, ◌<◌, ◌%◌, ◌^◌, List, [], ◌∷◌, ◌++◌, length, drop, refl, sym, ap, subst, ◌∙◌, arith, inl, inr, append_assoc, length-take, length-drop, Bool, true, false, if◌then◌else◌, ◌==◌, IsTrue, ◌⊎◌, slice_range, Memory, Lent, EachLent, IsAmong, Misses, IsWithin, without, Chunk, free, movable, fixed, fixed_lock, need, size_of, total, HeapAccepted, AnyPlaced, area_start, LiveChunk, NamedHere, chunks_of, Alters, IsSpot, merged, freed, with_lock, with_owner, with_bytes, LentHere, IsLentBody, LendsBodies, LendsOther, HoldsHeap, stays_put, length-overwritten, total-append, named_size, part_within, each_to, altered_lends, lent_chunk, run_apart, all_free_loose, apart, in_front, one, behind, found_within, body_within, run_within, header_misses, other_lends, relocked_lends, reowned_lends, same_lends, loose_lends, becomes_lent, named_not_free, exchanges_parts, AnyPlaced-mid, Found, IsOne, IsFreeChunk, Fills, SameChunks, Becomes, still_within, same_lock, same_length}
+use Rattle.heap_place.proofs.Words.{◌≡◌, ◌≢◌, ℕ, zero, suc, ◌+◌, ◌-◌, ◌≤◌, ◌<◌, ◌%◌, ◌^◌, List, [], ◌∷◌, ◌++◌, length, drop, refl, sym, ap, subst, ◌∙◌, arith, inl, inr, append_assoc, length-take, length-drop, Bool, true, false, if◌then◌else◌, IsTrue, ◌⊎◌, slice_range, Memory, Lent, EachLent, IsAmong, Misses, IsWithin, without, Chunk, free, movable, fixed, fixed_lock, need, size_of, total, HeapAccepted, AnyPlaced, area_start, LiveChunk, NamedHere, chunks_of, Alters, IsSpot, merged, freed, with_lock, with_owner, with_bytes, LentHere, IsLentBody, LendsBodies, LendsOther, HoldsHeap, stays_put, length-overwritten, total-append, named_size, part_within, each_to, altered_lends, lent_chunk, run_apart, all_free_loose, apart, in_front, one, behind, found_within, body_within, run_within, header_misses, other_lends, relocked_lends, reowned_lends, same_lends, loose_lends, becomes_lent, named_not_free, exchanges_parts, AnyPlaced-mid, Found, IsOne, IsFreeChunk, Fills, SameChunks, Becomes, still_within, same_lock, same_length}
 use Rattle.heap_place.proofs.FoundLaws.{finds_middle}
 use Rattle.heap_place.proofs.KeepLaws.{free_there}
 use Rattle.heap_place.specs.Relocation.{with_name}
 
 -- its header
-pub one_within : (m : Memory) (found : Found) → HeapAccepted m.bytes → LendsBodies m → IsOne m.bytes found → IsWithin m (found.place.0 - 8) 8
+pub one_within : (m : Memory) (found : Found) → HeapAccepted m.bytes → LendsBodies m
+    → IsOne m.bytes found → IsWithin m (found.place.0 - 8) 8
 one_within m found h l f = found_within m _ f.live f.chunk _ h l f.finds
 
-other_at : (m : Memory) {found : Found} → IsOne m.bytes found → LendsOther m found.place.0 → LendsOther m (found.place.0 - 8 + 8)
+other_at : (m : Memory) {found : Found} → IsOne m.bytes found → LendsOther m found.place.0
+    → LendsOther m (found.place.0 - 8 + 8)
 other_at m {found} f other = let e : found.place.0 ≡ found.place.0 - 8 + 8 = omega arith in rw e at other
 
 -- and a part of its body
@@ -61,7 +63,8 @@ written_holds old new found k part h same f x fits other = record { accepted = x
 -- ---- free chunks
 
 -- a part of one
-free_part : {m : Memory} {at size : ℕ} (there n : ℕ) → HoldsHeap m → IsFreeChunk m.bytes at size → at ≤ there → there + n ≤ at + size → IsWithin m there n
+free_part : {m : Memory} {at size : ℕ} (there n : ℕ) → HoldsHeap m → IsFreeChunk m.bytes at size
+    → at ≤ there → there + n ≤ at + size → IsWithin m there n
 free_part {m} {at} {size} there n h f low high = part_within m at _ _ n (run_within m _ (free size ∷ []) f.after at h.accepted h.lent f.chunks f.there tt) (omega arith) (omega arith)
 
 -- its two words
@@ -83,14 +86,15 @@ filled_holds {old} {new} {size} {c} h same f x sizes = record { accepted = (x f)
 
 pub length-slice : (l : List ℕ) (at n : ℕ) → at + n ≤ length l → length (slice_range l at (at + n)) ≡ n
 length-slice l at n within =
-    let a = length-take (at + n - at) (drop at l) in
-    let b = length-drop at l in
+    let a = length-take (at + n - at) (drop at l) in let b = length-drop at l in
     omega arith
 
-pub becomes_holds : {old new : Memory} → HoldsHeap old → new.lents ≡ old.lents → Becomes old.bytes new.bytes (chunks_of old.bytes) → HoldsHeap new
+pub becomes_holds : {old new : Memory} → HoldsHeap old → new.lents ≡ old.lents
+    → Becomes old.bytes new.bytes (chunks_of old.bytes) → HoldsHeap new
 becomes_holds {old} {new} h same b = record { accepted = b.frame.accepted; lent = same_lends old new h.lent same b }
 
-pub linked_holds : {old new : Memory} → HoldsHeap old → new.lents ≡ old.lents → SameChunks old.bytes new.bytes → HoldsHeap new
+pub linked_holds : {old new : Memory} → HoldsHeap old → new.lents ≡ old.lents
+    → SameChunks old.bytes new.bytes → HoldsHeap new
 linked_holds h same s = becomes_holds h same (record { frame = s.frame; layout = ap merged s.chunks })
 
 -- a walk over a stretch, or any chunks in a row
@@ -104,7 +108,8 @@ name_size owner slot (free size) = refl
 name_size owner slot c = refl
 
 -- one without locks isn't lent
-pub loose_other : (m : Memory) (found : Found) → LendsBodies m → (f : IsOne m.bytes found) → found.lock ≡ 0 → LendsOther m found.place.0
+pub loose_other : (m : Memory) (found : Found) → LendsBodies m → (f : IsOne m.bytes found)
+    → found.lock ≡ 0 → LendsOther m found.place.0
 loose_other m found l f unlocked = each_to _ (λ x. x.at ≢ found.place.0) _ l go where
   loose : (c : Chunk) → NamedHere found.name.0 f.live (found.place.0 - 8) c → IsTrue (stays_put c) → ⊥
   loose (free size) n = λ s. n
@@ -113,8 +118,7 @@ loose_other m found l f unlocked = each_to _ (λ x. x.at ≢ found.place.0) _ l 
       let e : suc lock ≡ f.live.lock = same_lock n.1 in
       omega arith
   loose (fixed bytes owner) n = λ s.
-      let e : fixed_lock ≡ f.live.lock = same_lock n.1 in
-      omega arith
+      let e : fixed_lock ≡ f.live.lock = same_lock n.1 in omega arith
 
   go : (lent : Lent) → IsAmong lent m.lents → IsLentBody m.bytes lent → lent.at ≢ found.place.0
   go lent is x = λ same.
@@ -188,7 +192,8 @@ lending_lends old new found lent part h l other is f some x many there count =
 
 -- ---- and taken back
 
-each_less_by : (P : Lent → Type 0) (c : Bool) (at : ℕ) (l : Lent) (ls : List Lent) → P l → EachLent P ls → EachLent P (without at ls) → EachLent P (if c then ls else l ∷ without at ls)
+each_less_by : (P : Lent → Type 0) (c : Bool) (at : ℕ) (l : Lent) (ls : List Lent) → P l
+    → EachLent P ls → EachLent P (without at ls) → EachLent P (if c then ls else l ∷ without at ls)
 each_less_by P true at l ls first others rest = others
 each_less_by P false at l ls first others rest = (first, rest)
 
@@ -207,7 +212,7 @@ back_lends old new found part h l is f x many =
     subst (λ y. EachLent (IsLentBody new.bytes) y) (sym is) (each_less (IsLentBody new.bytes) found.place.0 old.lents all)
 
 -- where a lent body begins
-pub found_markable : (image : List ℕ) (found : Found) → HeapAccepted image → IsOne image found → ((0 < found.place.0) × (found.place.0 % 8 ≡ 0)) × (found.place.0 < 2 ^ 32)
+pub found_markable : (image : List ℕ) (found : Found) → HeapAccepted image → IsOne image found
+    → ((0 < found.place.0) × (found.place.0 % 8 ≡ 0)) × (found.place.0 < 2 ^ 32)
 found_markable image found h f =
-    let m = finds_middle h f.finds in
-    ((omega arith, omega arith), omega arith)
+    let m = finds_middle h f.finds in ((omega arith, omega arith), omega arith)

@@ -1,5 +1,5 @@
 -- What is lent is no chunk of an owner, while that owner's chunks are made free.
-use Rattle.heap_place.proofs.Words.{◌≡◌, ◌≢◌, ℕ, ◌+◌, ◌-◌, ◌≤◌, true, false, List, [], ◌∷◌, ◌++◌, refl, sym, ap, subst, ◌∙◌, arith, inl, inr, IsTrue, Memory, Lent, EachLent, IsAmong, Chunk, free, size_of, total, is_owned_by, HeapAccepted, AnyPlaced, area_start, chunks_of, Becomes, Alters, freed, LentHere, IsLentBody, LendsBodies, LendsOther, LendsNoneOf, true_or_false, AnyPlaced-parts, AnyPlaced-mid, any-layout, becomes_start, any_replaced, exchanges_parts, each_of, each_to, stays_here, apart, in_front, one, behind, named_not_free, Found, IsOne}
+use Rattle.heap_place.proofs.Words.{◌≡◌, ◌≢◌, ℕ, ◌+◌, ◌-◌, ◌≤◌, false, List, [], ◌∷◌, ◌++◌, refl, sym, ap, subst, ◌∙◌, arith, inl, inr, IsTrue, Memory, Lent, EachLent, IsAmong, Chunk, free, size_of, total, is_owned_by, HeapAccepted, AnyPlaced, area_start, chunks_of, Becomes, Alters, freed, LentHere, IsLentBody, LendsBodies, LendsOther, LendsNoneOf, true_or_false, AnyPlaced-parts, AnyPlaced-mid, any-layout, becomes_start, any_replaced, exchanges_parts, each_of, each_to, stays_here, apart, in_front, one, behind, named_not_free, Found, IsOne}
 use Rattle.laws_heap.proofs.OwnedChunks.{named_owned}
 
 -- the chunk at an offset is lent, and is another owner's
@@ -38,7 +38,8 @@ aside_other image owner lent x b c a e own = λ same.
     ]
 
 -- one that is found is not lent
-pub owned_not_lent : (m : Memory) {owner : ℕ} {found : Found} → LendsNoneOf m owner → (f : IsOne m.bytes found) → found.owner ≡ owner → LendsOther m found.place.0
+pub owned_not_lent : (m : Memory) {owner : ℕ} {found : Found} → LendsNoneOf m owner
+    → (f : IsOne m.bytes found) → found.owner ≡ owner → LendsOther m found.place.0
 owned_not_lent m {found} none f own =
     let e : area_start m.bytes + total f.finds.before + 8 ≡ found.place.0 = omega arith in
     subst (λ n. LendsOther m n) e (none _ f.chunk f.finds.after f.finds.chunks (named_owned _ _ _ _ _ f.finds.named (sym f.owner_is ∙ own)))

@@ -1,6 +1,6 @@
 -- Chains of free chunks: their length is determined, they visit no chunk twice, and what keeps
 -- them.
-use Rattle.heap_place.proofs.Words.{◌≡◌, ◌≢◌, ℕ, zero, suc, ◌+◌, ◌^◌, ◌<◌, ◌≤◌, List, length, replicate, refl, sym, ap, subst, ◌∙◌, arith, inl, inr, ◌⊎◌, slice_index, get_or-set_same, get_or-set_other, get_or-replicate, length-set, u32_at, size_field, BeginsFree, class_count, IsOfClass, IsFreeOf, second_of, Chain, OnChain, IsList, AreLists, Any, ButAt, HasLists, KeepsOne, KeepsFree, Pushes, cases_eq}
+use Rattle.heap_place.proofs.Words.{◌≡◌, ◌≢◌, ℕ, zero, suc, ◌+◌, ◌^◌, ◌<◌, ◌≤◌, List, length, replicate, refl, sym, ap, subst, ◌∙◌, arith, inl, inr, ◌⊎◌, slice_index, get_or-set_same, get_or-set_other, get_or-replicate, length-set, BeginsFree, class_count, IsOfClass, IsFreeOf, second_of, Chain, OnChain, IsList, AreLists, Any, ButAt, HasLists, KeepsOne, KeepsFree, Pushes, cases_eq}
 use Rattle.std.proofs.Math.ListN.{set}
 use Rattle.std.proofs.Math.Nat.{pow-le-pow_right}
 
@@ -8,8 +8,7 @@ use Rattle.std.proofs.Math.Nat.{pow-le-pow_right}
 
 not_above : {k j n : ℕ} → IsOfClass k n → IsOfClass j n → k < j → ⊥
 not_above {k} {j} a b less =
-    let steps : 2 ^ (k + 1) ≤ 2 ^ j = pow-le-pow_right (omega arith) (omega arith) in
-    omega arith
+    let steps : 2 ^ (k + 1) ≤ 2 ^ j = pow-le-pow_right (omega arith) (omega arith) in omega arith
 
 -- a size is of one class
 pub one_class : {k j n : ℕ} → IsOfClass k n → IsOfClass j n → k ≢ j → ⊥
@@ -26,7 +25,8 @@ one_length image class (suc n) zero at a b = absurd (omega arith)
 one_length image class (suc n) (suc m) at a b = ap (λ k. suc k) (one_length _ _ n m _ a.1 b.1)
 
 -- a shorter chain does not come to where a longer one begins
-pub chain_apart : (image : List ℕ) (class n m at here : ℕ) → Chain image class n at → Chain image class m here → n < m → OnChain (ButAt here) image n at
+pub chain_apart : (image : List ℕ) (class n m at here : ℕ) → Chain image class n at
+    → Chain image class m here → n < m → OnChain (ButAt here) image n at
 chain_apart image class zero m at here a b less = tt
 chain_apart image class (suc n) m at here a b less = (
   λ same. let e = one_length image class (suc n) m here (rw same at a) b in omega arith,
@@ -34,7 +34,8 @@ chain_apart image class (suc n) m at here a b less = (
 )
 
 -- each chunk of a chain is free, and of its class
-pub chain_each : (P : ℕ → Type 0) (image : List ℕ) (class n at : ℕ) → ((x : ℕ) → IsFreeOf image class x → P x) → Chain image class n at → OnChain P image n at
+pub chain_each : (P : ℕ → Type 0) (image : List ℕ) (class n at : ℕ)
+    → ((x : ℕ) → IsFreeOf image class x → P x) → Chain image class n at → OnChain P image n at
 chain_each P image class zero at each c = tt
 chain_each P image class (suc n) at each c = (each at c.0, chain_each P _ _ n _ each c.1)
 
@@ -45,13 +46,15 @@ weaker P Q image class (suc n) at each c on = (each at c.0 on.0, weaker P Q _ _ 
 pub free_kept : {old new : List ℕ} {class at : ℕ} → IsFreeOf old class at → KeepsOne old new at → IsFreeOf new class at
 free_kept f k = record { begins = k.begins; of_class = rw (← k.first) at f.of_class; positive = f.positive }
 
-pub chain_kept : (P : ℕ → Type 0) {old new : List ℕ} (class n at : ℕ) → KeepsFree P old new → Chain old class n at → OnChain P old n at → Chain new class n at
+pub chain_kept : (P : ℕ → Type 0) {old new : List ℕ} (class n at : ℕ) → KeepsFree P old new
+    → Chain old class n at → OnChain P old n at → Chain new class n at
 chain_kept P class zero at keeps c on = c
 chain_kept P {old} {new} class (suc n) at keeps c on =
     let k = keeps at on.0 c.0.begins in
     (free_kept c.0 k, rw (← k.second) at (chain_kept P class n (second_of old at) keeps c.1 on.1))
 
-pub each_kept : (P : ℕ → Type 0) (old new : List ℕ) (class n at : ℕ) → KeepsFree P old new → Chain old class n at → OnChain P old n at → OnChain P new n at
+pub each_kept : (P : ℕ → Type 0) (old new : List ℕ) (class n at : ℕ) → KeepsFree P old new
+    → Chain old class n at → OnChain P old n at → OnChain P new n at
 each_kept P old new class zero at keeps c on = tt
 each_kept P old new class (suc n) at keeps c on =
     let k = keeps at on.0 c.0.begins in
@@ -60,13 +63,16 @@ each_kept P old new class (suc n) at keeps c on =
 -- ---- lists
 
 -- what keeps the free chunks keeps the lists
-pub list_kept : (P : ℕ → Type 0) {old new : List ℕ} {class head : ℕ} → KeepsFree P old new → IsList P old class head → IsList P new class head
+pub list_kept : (P : ℕ → Type 0) {old new : List ℕ} {class head : ℕ} → KeepsFree P old new
+    → IsList P old class head → IsList P new class head
 list_kept P {old} {new} {head} keeps l = record { count = l.count; chain = chain_kept P _ _ head keeps l.chain l.each; each = each_kept P old new _ _ head keeps l.chain l.each }
 
-pub lists_kept : (P : ℕ → Type 0) (old new heads : List ℕ) → KeepsFree P old new → AreLists P old heads → AreLists P new heads
+pub lists_kept : (P : ℕ → Type 0) (old new heads : List ℕ) → KeepsFree P old new
+    → AreLists P old heads → AreLists P new heads
 lists_kept P old new heads keeps a = record { count = a.count; lists = λ class below. list_kept P keeps (a.lists class below) }
 
-pub lists_weaker : (P Q : ℕ → Type 0) (image heads : List ℕ) → ((x : ℕ) → BeginsFree image x → P x → Q x) → AreLists P image heads → AreLists Q image heads
+pub lists_weaker : (P Q : ℕ → Type 0) (image heads : List ℕ)
+    → ((x : ℕ) → BeginsFree image x → P x → Q x) → AreLists P image heads → AreLists Q image heads
 lists_weaker P Q image heads each a = record {
   count = a.count;
   lists = λ class below.
@@ -78,7 +84,8 @@ pub lists_any : (P : ℕ → Type 0) (image heads : List ℕ) → AreLists P ima
 lists_any P image heads a = lists_weaker P Any image heads (λ x b p. tt) a
 
 -- the empty lists
-pub no_lists : (P : ℕ → Type 0) (image heads : List ℕ) → length heads ≡ class_count → ((class : ℕ) → class < class_count → slice_index heads class ≡ 0) → AreLists P image heads
+pub no_lists : (P : ℕ → Type 0) (image heads : List ℕ) → length heads ≡ class_count
+    → ((class : ℕ) → class < class_count → slice_index heads class ≡ 0) → AreLists P image heads
 no_lists P image heads len none = record { count = len; lists = λ class below. record { count = 0; chain = none _ below; each = tt } }
 
 pub new_lists : (P : ℕ → Type 0) (image : List ℕ) → AreLists P image (replicate class_count 0)
@@ -90,14 +97,16 @@ pub record IsHead (image heads : List ℕ) (class at : ℕ) : Type 0 where
   pub count : ℕ
   pub rest : Chain image class count (second_of image at)
 
-pub head_free : {image heads : List ℕ} (class : ℕ) → HasLists image heads → class < class_count → 0 < slice_index heads class → IsHead image heads class (slice_index heads class)
+pub head_free : {image heads : List ℕ} (class : ℕ) → HasLists image heads → class < class_count
+    → 0 < slice_index heads class → IsHead image heads class (slice_index heads class)
 head_free {image} {heads} class a below some = by_count _ (a.lists class below).chain where
   by_count : (n : ℕ) → Chain image class n (slice_index heads class) → IsHead image heads class (slice_index heads class)
   by_count zero c = absurd (omega arith)
   by_count (suc n) c = record { free = c.0; count = n; rest = c.1 }
 
 -- the lists, one by its own proof
-pub one_and_others : (P : ℕ → Type 0) (image heads : List ℕ) (class : ℕ) → length heads ≡ class_count → IsList P image class (slice_index heads class)
+pub one_and_others : (P : ℕ → Type 0) (image heads : List ℕ) (class : ℕ)
+    → length heads ≡ class_count → IsList P image class (slice_index heads class)
     → ((k : ℕ) → k < class_count → k ≢ class → IsList P image k (slice_index heads k)) → AreLists P image heads
 one_and_others P image heads class count here others = record {
   count = count;

@@ -1,5 +1,5 @@
 -- Live chunks by their names and by their places.
-use Rattle.heap_place.proofs.Words.{◌≡◌, ◌≢◌, ℕ, ◌+◌, ◌-◌, ◌<◌, ◌≤◌, List, [], ◌∷◌, ◌++◌, length, Option, Some, None, MatchOption, refl, sym, ap, subst, ◌∙◌, arith, inl, inr, ◌==◌, ◌&&◌, nat_lt, IsSome, IfNone, u32_at, Chunk, free, movable, fixed, fixed_lock, size_of, total, IsLive, HasChunk, area_start, BodyHere, IsHeap, HeapAccepted, EveryPlaced, AnyPlaced, LiveChunk, NamedHere, chunk_at, chunks_of, place_of, Finds, NotFixedAs, cond-true, cond-false, true_or_false, EveryPlaced-push, EveryPlaced-split, AnyPlaced-mid, fixed_name, fixed_live, fixed_live_is, fixed_has_name, fixed_name_is, fixed_place, fixed_not, fixed_owned, finds_spelled, InSlot, in_slot, finds_read, held_finds, none_held, read_heap, chunk_at-spelled, finds_place, HoldsPlace, HoldsNothing, Header, header_of, size_by, HasHeader, HasLive, Found, IsFound, IsOne, IsFixed, NothingAt, NoneFixedAs, NoneBeginsAt, NoSlotHolds, found_if_movable, found_if_fixed, Passed, same_lock, same_owner, same_length, some_same, Bool}
+use Rattle.heap_place.proofs.Words.{◌≡◌, ◌≢◌, ℕ, ◌+◌, ◌-◌, ◌<◌, ◌≤◌, List, [], ◌∷◌, ◌++◌, length, Option, Some, None, MatchOption, refl, sym, ap, subst, ◌∙◌, arith, inl, inr, ◌==◌, ◌&&◌, nat_lt, IsSome, IfNone, u32_at, Chunk, free, movable, fixed, fixed_lock, size_of, total, IsLive, HasChunk, area_start, BodyHere, IsHeap, HeapAccepted, EveryPlaced, LiveChunk, NamedHere, chunk_at, chunks_of, place_of, Finds, NotFixedAs, cond-true, cond-false, true_or_false, EveryPlaced-push, EveryPlaced-split, AnyPlaced-mid, fixed_name, fixed_live, fixed_live_is, fixed_has_name, fixed_name_is, fixed_place, fixed_not, fixed_owned, finds_spelled, InSlot, in_slot, finds_read, held_finds, none_held, read_heap, chunk_at-spelled, finds_place, HoldsPlace, HoldsNothing, Header, header_of, size_by, HasHeader, HasLive, Found, IsFound, IsOne, IsFixed, NothingAt, NoneFixedAs, NoneBeginsAt, NoSlotHolds, found_if_movable, found_if_fixed, Passed, same_lock, same_owner, same_length, some_same, Bool}
 use Rattle.std.proofs.lemmas.Bool.Decides.{Decides-and, Decides-eqb, Decides-ltb}
 use Rattle.std.specs.Bool.{Decides}
 use Rattle.std.specs.Option.{option_map}
@@ -56,11 +56,9 @@ fixed_named at name (fixed bytes owner) {found} e f = elim (true_or_false _) [
 pub fixed_found : {image : List ℕ} (P : List Chunk → Type 0) {at : ℕ} (name : Name) {header : Header} {found : Found} → HeapAccepted image → Passed image P at → HasHeader image at header → found_if_fixed header (placed (at + 8)) name ≡ Some found → IsFound image name.0 found
 fixed_found {image} P {at} name h p has f =
     let n = fixed_named at name has.chunk has.header_is f in
-    let live = fixed_live n.bytes n.owner in
-    let parts = passed_parts P h p has in
+    let live = fixed_live n.bytes n.owner in let parts = passed_parts P h p has in
     let chunks = subst (λ c. chunks_of image ≡ p.front ++ c ∷ parts.0) n.chunk parts.1 in
-    let there = passed_at image P at p in
-    let place : at + 8 - 8 ≡ at = omega arith in
+    let there = passed_at image P at p in let place : at + 8 - 8 ≡ at = omega arith in
     let finds : Finds image name.0 live (fixed n.bytes n.owner) at = record {
       before = p.front;
       after = parts.0;
@@ -83,7 +81,8 @@ fixed_found {image} P {at} name h p has f =
 pub fixed_there : {at : ℕ} (name : Name) {header : Header} {found : Found} {image : List ℕ} → HasHeader image at header → found_if_fixed header (placed (at + 8)) name ≡ Some found → found.place.0 ≡ name.0
 fixed_there {at} name has f = let n = fixed_named at name _ has.header_is f in ap (λ x. x.place.0) n.is ∙ sym (fixed_place at) ∙ n.there
 
-not_fixed : (at : ℕ) (name : Name) (c : Chunk) → found_if_fixed (header_of c) (placed (at + 8)) name ≡ None → NotFixedAs name.0 at c
+not_fixed : (at : ℕ) (name : Name) (c : Chunk)
+    → found_if_fixed (header_of c) (placed (at + 8)) name ≡ None → NotFixedAs name.0 at c
 not_fixed at name (free size) f = tt
 not_fixed at name (movable bytes lock owner slot) f = tt
 not_fixed at name (fixed bytes owner) f = λ some same. let there = sym (cond-true _ _ _ ((Decides-fixed_by at _ name).1 (same, some))) ∙ f in absurd cc
@@ -98,7 +97,8 @@ pub begins_passed : {image : List ℕ} {at : ℕ} (there : ℕ) {header : Header
 begins_passed {at} there p has other = passed_more _ _ _ at _ p has
     (EveryPlaced-push (λ k c. k ≢ there) _ _ _ at (passed_at _ _ at p) p.holds other)
 
-none_at : (there start : ℕ) (before : List Chunk) (c : Chunk) (after : List Chunk) → EveryPlaced (λ k d. k ≢ there) start (before ++ c ∷ after) → start + total before ≢ there
+none_at : (there start : ℕ) (before : List Chunk) (c : Chunk) (after : List Chunk)
+    → EveryPlaced (λ k d. k ≢ there) start (before ++ c ∷ after) → start + total before ≢ there
 none_at there start [] c after e = λ same. e.0 ((let z : start ≡ start + total [] = omega arith in z) ∙ same)
 none_at there start (b ∷ bs) c after e = λ same. none_at there (start + size_of b) bs c after e.1 ((let z : start + size_of b + total bs ≡ start + total (b ∷ bs) = omega arith in z) ∙ same)
 
@@ -106,10 +106,10 @@ pub held_slot : {image : List ℕ} {name place : ℕ} → HeapAccepted image →
 held_slot {name} {place} h holds = in_slot _ name place h holds.is_slot holds.held holds.some
 
 -- where no chunk begins no slot's chunk does
-pub none_begins_holds : {image : List ℕ} (place : ℕ) → HeapAccepted image → NoneBeginsAt image (place - 8) (chunks_of image) → NoSlotHolds image place
+pub none_begins_holds : {image : List ℕ} (place : ℕ) → HeapAccepted image
+    → NoneBeginsAt image (place - 8) (chunks_of image) → NoSlotHolds image place
 none_begins_holds place h none = λ name holds.
-    let i = held_slot h holds in
-    none_at _ _ _ _ _ (rw i.finds.chunks at none) (sym i.finds.there)
+    let i = held_slot h holds in none_at _ _ _ _ _ (rw i.finds.chunks at none) (sym i.finds.there)
 
 -- ---- the chunk of a name that stands for one and isn't in a slot
 
@@ -117,17 +117,18 @@ movable_holds : {image : List ℕ} {name : ℕ} {live : LiveChunk} {bytes : List
 movable_holds {image} {name} {bytes} {lock} {owner} {slot} {at} h nothing f =
     let body : BodyHere name (at + 8) (area_start image + total f.before) (movable bytes lock owner slot) = (f.named.0, omega arith) in
     let here = rw (← f.chunks) at (AnyPlaced-mid (BodyHere name (at + 8)) (area_start image) f.before (movable bytes lock owner slot) f.after body) in
-    let tied = ((read_heap image h).tied name (at + 8) (omega arith)).1 here in
-    absurd (omega arith)
+    let tied = ((read_heap image h).tied name (at + 8) (omega arith)).1 here in absurd (omega arith)
 
-fixed_chunk : {image : List ℕ} {name : ℕ} {live : LiveChunk} (c : Chunk) {at : ℕ} → HeapAccepted image → HoldsNothing image name → Finds image name live c at → IsFixed image name
+fixed_chunk : {image : List ℕ} {name : ℕ} {live : LiveChunk} (c : Chunk) {at : ℕ}
+    → HeapAccepted image → HoldsNothing image name → Finds image name live c at → IsFixed image name
 fixed_chunk (free size) h nothing f = absurd f.named
 fixed_chunk (movable bytes lock owner slot) h nothing f = absurd (movable_holds h nothing f)
 fixed_chunk {image} {name} {live} (fixed bytes owner) {at} h nothing f =
     let there : at ≡ name - 8 = omega arith in
     record { live = live; bytes = bytes; owner = owner; finds = rw there at f; behind_header = omega arith }
 
-pub is_fixed : {image : List ℕ} (name : ℕ) (x : Option LiveChunk) → HeapAccepted image → held image name ≡ x → IsSome x → HoldsNothing image name → IsFixed image name
+pub is_fixed : {image : List ℕ} (name : ℕ) (x : Option LiveChunk) → HeapAccepted image
+    → held image name ≡ x → IsSome x → HoldsNothing image name → IsFixed image name
 is_fixed name None h e some nothing = absurd cc
 is_fixed {image} name (Some live) h e some nothing = let f = held_finds image name live h e in fixed_chunk f.chunk h nothing f.finds
 
@@ -140,7 +141,8 @@ fixed_header name {header} h i read =
     let is = some_same (read ∙ ap (option_map header_of) (finds_read _ _ _ _ _ h i.finds)) in
     ap (λ x. found_if_fixed x (placed name.0) name) is ∙ cond-true _ _ _ ((Decides-and _ _ (Decides-eqb name.0 name.0) (Decides-ltb 0 i.owner)).1 (refl, fixed_owned _ _ _ i.finds.named))
 
-pub fixed_is_found : {image : List ℕ} (name : Name) {found : Found} → (i : IsFixed image name.0) → Some (as_found_at name (length i.bytes) i.owner) ≡ Some found → IsFound image name.0 found
+pub fixed_is_found : {image : List ℕ} (name : Name) {found : Found} → (i : IsFixed image name.0)
+    → Some (as_found_at name (length i.bytes) i.owner) ≡ Some found → IsFound image name.0 found
 fixed_is_found {image} name i e =
     let live = fixed_live_is (name.0 - 8) i.bytes i.owner i.finds.named in
     subst (λ x. IsFound image name.0 x) (some_same e) record {
@@ -166,7 +168,8 @@ slot_found {image} {name} place h read holds =
     subst (λ x. MatchOption (found_if_movable x place) ⊥ (IsFound image name)) (sym (some_same (read ∙ slot_header h s)))
     record { live = s.live; chunk = movable s.live.bytes s.live.lock s.live.owner s.named; finds = s.finds; behind_header = s.behind_header; name_is = s.finds.named.0; count = refl; lock_is = refl; owner_is = refl }
 
-pub slot_unread : {image : List ℕ} {name place : ℕ} → HeapAccepted image → None ≡ option_map header_of (chunk_at image (place - 8)) → HoldsPlace image name place → ⊥
+pub slot_unread : {image : List ℕ} {name place : ℕ} → HeapAccepted image
+    → None ≡ option_map header_of (chunk_at image (place - 8)) → HoldsPlace image name place → ⊥
 slot_unread h read holds = let s = held_slot h holds in let e = read ∙ slot_header h s in absurd cc
 
 -- ---- the movable chunk of a name
@@ -198,19 +201,19 @@ pub slot_low : {image : List ℕ} {name place : ℕ} → HeapAccepted image → 
 slot_low h holds = (held_slot h holds).behind_header
 
 -- a live chunk stands at the place that a slot holds
-pub slot_live : {image : List ℕ} {name place : ℕ} → HeapAccepted image → (holds : HoldsPlace image name place) → HasLive image (place - 8)
+pub slot_live : {image : List ℕ} {name place : ℕ} → HeapAccepted image
+    → (holds : HoldsPlace image name place) → HasLive image (place - 8)
 slot_live {name} h holds =
-    let s = held_slot h holds in
-    let live = finds_spelled _ name _ _ _ h s.finds in
+    let s = held_slot h holds in let live = finds_spelled _ name _ _ _ h s.finds in
     record { bytes = s.live.bytes; lock = s.live.lock; owner = s.live.owner; h_offset = live.0; is = live.1 }
 
 -- what its fields say is the chunk of the slot
-pub slot_fields : {image : List ℕ} (name : Name) {place : ℕ} (fields : LiveFields) → HeapAccepted image → HoldsPlace image name.0 place
+pub slot_fields : {image : List ℕ} (name : Name) {place : ℕ} (fields : LiveFields)
+    → HeapAccepted image → HoldsPlace image name.0 place
     → ((bytes : List ℕ) (lock owner h_offset : ℕ) → IsLive image (place - 8) bytes lock owner h_offset → (fields.length ≡ length bytes) × (fields.lock ≡ lock) × (fields.owner ≡ owner))
     → IsFound image name.0 (record { name = name; place = placed place; length = fields.length; lock = fields.lock; owner = fields.owner })
 slot_fields name fields h holds says =
-    let s = held_slot h holds in
-    let live = finds_spelled _ _ _ _ _ h s.finds in
+    let s = held_slot h holds in let live = finds_spelled _ _ _ _ _ h s.finds in
     let are = says s.live.bytes s.live.lock s.live.owner live.0 live.1 in
     record { live = s.live; chunk = movable s.live.bytes s.live.lock s.live.owner s.named; finds = s.finds; behind_header = s.behind_header; name_is = refl; count = are.0; lock_is = are.1; owner_is = are.2 }
 
@@ -235,7 +238,8 @@ pub low_holds_none : {image : List ℕ} (place : ℕ) → HeapAccepted image →
 low_holds_none place h low name holds = let behind = (held_slot h holds).behind_header in absurd (omega arith)
 
 -- the header in front of a place that a slot holds
-slot_header_is : {image : List ℕ} {name place : ℕ} {header : Header} → HeapAccepted image → ReadsHeader image (place - 8) header → (holds : HoldsPlace image name place)
+slot_header_is : {image : List ℕ} {name place : ℕ} {header : Header} → HeapAccepted image
+    → ReadsHeader image (place - 8) header → (holds : HoldsPlace image name place)
     → (s : InSlot image name place) × (header ≡ headers.Movable (length s.live.bytes) s.live.lock s.live.owner name)
 slot_header_is h read holds =
     let s = held_slot h holds in
@@ -245,8 +249,7 @@ slot_header_is h read holds =
 pub other_holds_none : {image : List ℕ} (place : Place) {header : Header} → HeapAccepted image → ReadsHeader image (place.0 - 8) header → found_if_movable header place ≡ None → NoSlotHolds image place.0
 other_holds_none place h read none name holds =
     let b = slot_header_is h read holds in
-    let is = ap (λ x. found_if_movable x place) (sym b.1) ∙ none in
-    absurd cc
+    let is = ap (λ x. found_if_movable x place) (sym b.1) ∙ none in absurd cc
 
 movable_name : (count lock owner slot : ℕ) (place : Place) {found : Found} → found_if_movable (headers.Movable count lock owner slot) place ≡ Some found → found.name.0 ≡ slot
 movable_name count lock owner slot place e = ap (λ (x : Found). x.name.0) (sym (some_same e))
@@ -262,13 +265,15 @@ elsewhere_holds_none {image} place h read is not_held name holds =
 pub slot_one : {image : List ℕ} (place : Place) {found : Found} {header : Header} → HeapAccepted image → ReadsHeader image (place.0 - 8) header → found_if_movable header place ≡ Some found → HoldsPlace image found.name.0 place.0 → IsOne image found
 slot_one place h read is holds = rw is at (slot_found place h read holds)
 
-pub movable_place : (header : Header) (place : Place) {found : Found} → found_if_movable header place ≡ Some found → found.place.0 ≡ place.0
+pub movable_place : (header : Header) (place : Place) {found : Found}
+    → found_if_movable header place ≡ Some found → found.place.0 ≡ place.0
 movable_place (headers.Free size) place e = absurd cc
 movable_place (headers.Movable count lock owner slot) place e = ap (λ x. x.place.0) (sym (some_same e))
 movable_place (headers.Fixed count owner) place e = absurd cc
 
 -- neither a slot nor a fixed chunk has the place
-pub nothing_at : {image : List ℕ} (place : ℕ) → HeapAccepted image → NoSlotHolds image place → NoneFixedAs image place (chunks_of image) → NothingAt image place
+pub nothing_at : {image : List ℕ} (place : ℕ) → HeapAccepted image → NoSlotHolds image place
+    → NoneFixedAs image place (chunks_of image) → NothingAt image place
 nothing_at {image} place h slots none_fixed name at = none (held image name) refl where
   at_place : (live : LiveChunk) (c : Chunk) (there : ℕ) → Finds image name live c there → there + 8 ≡ place → ⊥
   at_place live (free size) there f e = f.named

@@ -1,5 +1,5 @@
 -- A free chunk becomes a table, which is added to the chain.
-use Rattle.heap_place.proofs.Words.{true, ◌≡◌, ℕ, ◌+◌, ◌-◌, ◌*◌, ◌^◌, List, [], ◌∷◌, ◌++◌, length, take, drop, replicate, refl, sym, ap, subst, ◌∙◌, arith, inl, inr, slice_range, length-replicate, u32_bytes, overwritten, Chunk, free, fixed_lock, need, Spelled, area_start, is_chained, HeapAccepted, Tiles, chunks_of, AnyPlaced, IsFreeAt, WritesPlain, slice-overwritten, chunks_of-tiled, replaced_total, same_start, wrote_part, wrote_wider, wrote_then, wrote_word_apart, free_word, lives_plain, middle_plain, plain_then, HasHeader, header_words, IsFreeChunk, KeepsFree, ButAt, Any}
+use Rattle.heap_place.proofs.Words.{true, ◌≡◌, ℕ, ◌+◌, ◌-◌, ◌*◌, ◌^◌, List, [], ◌∷◌, ◌++◌, length, take, drop, replicate, refl, sym, ap, subst, ◌∙◌, arith, inl, inr, slice_range, length-replicate, u32_bytes, overwritten, Chunk, free, fixed_lock, need, Spelled, area_start, is_chained, HeapAccepted, Tiles, IsFreeAt, WritesPlain, slice-overwritten, chunks_of-tiled, replaced_total, same_start, wrote_part, wrote_wider, wrote_then, wrote_word_apart, free_word, lives_plain, middle_plain, plain_then, HasHeader, header_words, IsFreeChunk, KeepsFree, ButAt, Any}
 use Rattle.heap_model.specs.Chunk.{seen}
 use Rattle.heap_model.specs.MoreTables.{last_next, PutsTable}
 use Rattle.laws_heap.proofs.AlikeTables.{alike_back, any_alike, free_tells}
@@ -20,8 +20,7 @@ seen_zeros = refl
 pub table_written : {old h z : List ℕ} {at : ℕ} → HeapAccepted old → is_chained old ≡ true → (r : IsFreeChunk old at 72) → h ≡ overwritten old at (header_words at (headers.Fixed 64 0)) → HasHeader h at (headers.Fixed 64 0) → z ≡ overwritten h (at + 8) (replicate 64 0)
     → WritesTable old z r.before r.after at
 table_written {old} {h} {z} {at} accepted chained r h_is header z_is =
-    let facts = cut_facts accepted r in
-    let inside = facts.0 in
+    let facts = cut_facts accepted r in let inside = facts.0 in
     let zeros : length (replicate {A = ℕ} 64 0) ≡ 64 = length-replicate {A = ℕ} 64 0 in
     let head = wrote_words old h at 64 fixed_lock 0 0 inside h_is in
     let body = wrote_part h z (at + 8) (replicate 64 0) z_is (omega arith) in
@@ -79,7 +78,8 @@ pub table_lays : {old h z new : List ℕ} {at : ℕ} → HeapAccepted old → is
     → new ≡ overwritten z (last_next z) (u32_bytes (at + 8)) → LaysTable old z new r.before r.after at
 table_lays accepted chained r h_is header z_is new_is = record { first = table_written accepted chained r h_is header z_is; word = new_is }
 
-pub table_claimed : {old z new : List ℕ} {at : ℕ} → (r : IsFreeChunk old at 72) → LaysTable old z new r.before r.after at → TableClaimed old new at
+pub table_claimed : {old z new : List ℕ} {at : ℕ} → (r : IsFreeChunk old at 72)
+    → LaysTable old z new r.before r.after at → TableClaimed old new at
 table_claimed {old} {z} {new} {at} r l =
     let d = lays_table old z new r.before r.after at l in
     let start = stays_start z new d.added.head in

@@ -1,8 +1,7 @@
 -- The walk that makes an owner's chunks free.
-use Rattle.heap_place.proofs.Words.{◌≡◌, ◌≢◌, ℕ, ◌+◌, ◌-◌, ◌<◌, ◌≤◌, Bool, true, false, cond, List, [], ◌∷◌, ◌++◌, length, Some, None, refl, sym, ap, subst, ◌∙◌, append_assoc, arith, inl, inr, eqb-true, eq-eqb, ◌==◌, IsTrue, Chunk, free, movable, fixed, fixed_lock, size_of, total, is_owned_by, SpelledAll, Memory, Lent, EachLent, LendsOther, LendsNoneOf, area_start, directory_of, HeapAccepted, EveryPlaced, LiveChunk, NamedHere, chunks_of, merged, layout_of, Becomes, Alters, freed, owned_freed, WritesPlain, cond-true, cond-false, total-append, SpelledAll-split, SpelledAll-end, plain_same, plain_then, EveryPlaced-push, fixed_live, fixed_has_name, read_heap, finds_held, IsNotFree, same_frame, frame_then, becomes_start, exchanges_parts, Header, header_of, size_by, HasHeader, Found, IsOne, owned_by, Passed, NoneOwned, NoneLentAmong, Freeing, HasChunk, some_same}
+use Rattle.heap_place.proofs.Words.{◌≡◌, ◌≢◌, ℕ, ◌+◌, ◌-◌, ◌<◌, ◌≤◌, Bool, true, false, cond, List, [], ◌∷◌, ◌++◌, length, Some, None, refl, sym, ap, subst, ◌∙◌, append_assoc, arith, inl, inr, eqb-true, eq-eqb, ◌==◌, IsTrue, Chunk, free, movable, fixed, size_of, total, is_owned_by, Memory, Lent, EachLent, LendsOther, LendsNoneOf, area_start, directory_of, HeapAccepted, EveryPlaced, LiveChunk, NamedHere, chunks_of, merged, layout_of, Becomes, Alters, freed, owned_freed, WritesPlain, cond-true, cond-false, total-append, SpelledAll-split, SpelledAll-end, plain_same, plain_then, EveryPlaced-push, fixed_live, fixed_has_name, read_heap, finds_held, IsNotFree, same_frame, frame_then, becomes_start, exchanges_parts, Header, header_of, size_by, HasHeader, Found, IsOne, owned_by, Passed, NoneOwned, NoneLentAmong, Freeing, HasChunk, some_same}
 use Rattle.raw_region.specs.Marks.{BeginsAt}
 use Rattle.laws_heap.proofs.OwnedChunks.{owned, counted_one, owned-merged, freed_if, owned_freed-append, owned_freed-merged, owned_freed-layout, owned_freed-none, not_directory}
-use Rattle.chunk_format.specs.declared.header.Header.TheVariants as headers
 use Rattle.heap_place.proofs.WalkLaws.{passed_start, passed_chunk, passed_at, passed_more, passed_all, passed_parts}
 use Rattle.heap_place.proofs.LookupLaws.{placed}
 use Rattle.heap_place.proofs.LentOwners.{owned_not_lent}
@@ -26,7 +25,8 @@ pub record OwnedAs (at owner : ℕ) (c : Chunk) (found : Found) : Type 0 where
   pub is : is_owned_by owner c ≡ true
 
 -- what the test of a chunk's owner says
-own_test : (own owner : ℕ) (chunk found : Found) → cond (own == owner) (Some chunk) None ≡ Some found → (own ≡ owner) × (chunk ≡ found)
+own_test : (own owner : ℕ) (chunk found : Found)
+    → cond (own == owner) (Some chunk) None ≡ Some found → (own ≡ owner) × (chunk ≡ found)
 own_test own owner chunk found e = by_test (own == owner) refl e where
   by_test : (t : Bool) → (own == owner) ≡ t → cond t (Some chunk) None ≡ Some found → (own ≡ owner) × (chunk ≡ found)
   by_test true is s = (eqb-true own owner is, some_same s)
@@ -36,7 +36,8 @@ other_test : (t : Bool) (chunk : Found) → cond t (Some chunk) None ≡ None �
 other_test true chunk s = absurd cc
 other_test false chunk s = refl
 
-pub owned_named : (at owner : ℕ) {header : Header} (c : Chunk) {found : Found} → header ≡ header_of c → FindsOwned header at owner found → OwnedAs at owner c found
+pub owned_named : (at owner : ℕ) {header : Header} (c : Chunk) {found : Found}
+    → header ≡ header_of c → FindsOwned header at owner found → OwnedAs at owner c found
 owned_named at owner (free size) {found} e f = let g = rw e at f in absurd cc
 owned_named at owner (movable bytes lock own slot) {found} e f =
     let t = own_test own _ _ _ (rw e at f) in
@@ -49,7 +50,8 @@ owned_named at owner (fixed bytes own) {found} e f =
     record { live = fixed_live bytes own; named = named; is_live = tt; place = refl; count = refl; lock_is = refl; owner_is = sym t.0; own = refl; is = eq-eqb own owner t.0 }
 
 -- any other chunk is not the owner's
-not_owned_named : (at owner : ℕ) (c : Chunk) → owned_by (header_of c) (placed (at + 8)) owner ≡ None → is_owned_by owner c ≡ false
+not_owned_named : (at owner : ℕ) (c : Chunk) → owned_by (header_of c) (placed (at + 8)) owner ≡ None
+    → is_owned_by owner c ≡ false
 not_owned_named at owner (free size) e = refl
 not_owned_named at owner (movable bytes lock own slot) e = other_test _ _ e
 not_owned_named at owner (fixed bytes own) e = other_test _ _ e
@@ -57,8 +59,7 @@ not_owned_named at owner (fixed bytes own) e = other_test _ _ e
 -- it is found where the walk has come to
 abbrev pub owned_one : {image : List ℕ} (P : List Chunk → Type 0) {at : ℕ} (owner : ℕ) {header : Header} {found : Found} → HeapAccepted image → 0 < owner → Passed image P at → HasHeader image at header → FindsOwned header at owner found → IsOne image found
 owned_one P {at} owner {found} h some p has is =
-    let o = owned_named at owner has.chunk has.header_is is in
-    let parts = passed_parts P h p has in
+    let o = owned_named at owner has.chunk has.header_is is in let parts = passed_parts P h p has in
     let back : at ≡ found.place.0 - 8 = omega arith in
     record {
       live = o.live;
@@ -111,14 +112,16 @@ none_by : (m : Memory) (owner start : ℕ) (before : List Chunk) (c : Chunk) (af
 none_by m owner start [] c after e own = rw (let z : start + 8 ≡ start + total [] + 8 = omega arith in z) at (e.0 own)
 none_by m owner start (b ∷ bs) c after e own = rw (let z : start + size_of b + total bs + 8 ≡ start + total (b ∷ bs) + 8 = omega arith in z) at (none_by m owner (start + size_of b) bs c after e.1 own)
 
-pub none_of_owner : (m : Memory) (owner : ℕ) {at : ℕ} → HeapAccepted m.bytes → Passed m.bytes (NoneLentAmong m owner) at → length m.bytes ≤ at → LendsNoneOf m owner
+pub none_of_owner : (m : Memory) (owner : ℕ) {at : ℕ} → HeapAccepted m.bytes
+    → Passed m.bytes (NoneLentAmong m owner) at → length m.bytes ≤ at → LendsNoneOf m owner
 none_of_owner m owner {at} h p beyond = λ before chunk after e own.
     none_by m owner (area_start m.bytes) before chunk after (rw e at (passed_all m.bytes (NoneLentAmong m owner) at h p beyond)) own
 
 -- ---- how many there are
 
 -- where there are none, one chunk more that is not the owner's changes nothing
-none_more : (owner : ℕ) (front : List Chunk) (c : Chunk) → NoneOwned owner front → is_owned_by owner c ≡ false → NoneOwned owner (front ++ c ∷ [])
+none_more : (owner : ℕ) (front : List Chunk) (c : Chunk) → NoneOwned owner front
+    → is_owned_by owner c ≡ false → NoneOwned owner (front ++ c ∷ [])
 none_more owner front c none not_own = counted_one _ front c [] ∙ (let one : cond {A = ℕ} (is_owned_by owner c) 1 0 ≡ 0 = cond-false (is_owned_by owner c) 1 0 not_own in let end : owned owner [] ≡ 0 = refl in let before : owned owner front ≡ 0 = none in omega arith)
 
 -- ---- the walk
@@ -133,7 +136,8 @@ freeing_start {image} owner h = record {
   plain = plain_same image;
 }
 
-pub freeing_there : {old now : List ℕ} {owner at count : ℕ} → Freeing old now owner at count → at < length now → HasChunk now at
+pub freeing_there : {old now : List ℕ} {owner at count : ℕ} → Freeing old now owner at count
+    → at < length now → HasChunk now at
 freeing_there f inside = passed_chunk f.frame.accepted f.passed inside
 
 pub freeing_kept : {old now : List ℕ} {owner at count : ℕ} {header : Header} {size : ℕ} → Freeing old now owner at count → HasHeader now at header → owned_by header (placed (at + 8)) owner ≡ None → size ≡ size_by header → Freeing old now owner (at + size) count
@@ -156,10 +160,8 @@ freeing_more {old} {now} {new} {owner} {at} size {found} f has is x exact p =
     let back : found.place.0 - 8 ≡ at = omega arith in
     let parts = passed_parts (NoneOwned owner) f.frame.accepted f.passed has in
     let there = passed_at now (NoneOwned owner) at f.passed in
-    let front : List Chunk = f.passed.front in
-    let after : List Chunk = parts.0 in
-    let c : Chunk = has.chunk in
-    let passed : List Chunk = front ++ free size ∷ [] in
+    let front : List Chunk = f.passed.front in let after : List Chunk = parts.0 in
+    let c : Chunk = has.chunk in let passed : List Chunk = front ++ free size ∷ [] in
     let b = (exchanges_parts now new at (λ chunk. freed chunk ∷ []) front c after f.frame.accepted o.is_live parts.1 there).0 (rw back at x) in
     let one : cond {A = ℕ} (is_owned_by owner c) 1 0 ≡ 1 = cond-true (is_owned_by owner c) 1 0 o.is in
     let before_is : owned owner (chunks_of now) ≡ owned owner front + (cond {A = ℕ} (is_owned_by owner c) 1 0 + owned owner after) = ap (owned owner) parts.1 ∙ counted_one owner front c after in

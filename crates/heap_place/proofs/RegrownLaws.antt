@@ -1,5 +1,5 @@
 -- The lists, where a live chunk gets another length in its place.
-use Rattle.heap_place.proofs.Words.{◌≡◌, ℕ, zero, suc, ◌+◌, ◌-◌, ◌<◌, ◌≤◌, List, [], ◌∷◌, ◌++◌, length, sym, ap, subst, ◌∙◌, append_assoc, arith, inl, inr, Chunk, free, need, size_of, total, area_start, HeapAccepted, chunks_of, AnyPlaced, EveryPlaced, BeginsFree, IsFreeAt, gap, IsSpot, Finds, with_length, total-append, named_live_chunk, chunks_of-tiled, TakesBytes, SpelledAll-takes, EveryPlaced-split, AnyPlaced-split, free_inside, same_start, size_of-with_length, Found, RunBehind, Resizes, AreLists, HasLists, Any, Outside, KeepsFree, IsFreeChunk, Links, Pushes}
+use Rattle.heap_place.proofs.Words.{◌≡◌, ℕ, zero, suc, ◌+◌, ◌-◌, ◌<◌, ◌≤◌, List, [], ◌∷◌, ◌++◌, sym, ap, subst, ◌∙◌, append_assoc, arith, inl, inr, Chunk, free, need, size_of, total, area_start, HeapAccepted, chunks_of, AnyPlaced, EveryPlaced, BeginsFree, IsFreeAt, gap, IsSpot, Finds, with_length, total-append, named_live_chunk, chunks_of-tiled, TakesBytes, SpelledAll-takes, EveryPlaced-split, AnyPlaced-split, free_inside, same_start, size_of-with_length, Found, RunBehind, Resizes, AreLists, HasLists, Any, Outside, KeepsFree, IsFreeChunk, Links, Pushes}
 use Rattle.heap_place.proofs.FoundLaws.{heap_in_parts, found_size}
 use Rattle.heap_place.proofs.ListLaws.{lists_weaker, lists_kept, lists_any, push_lists}
 use Rattle.heap_place.proofs.KeepLaws.{keeps_replaced, outside_apart, live_apart}
@@ -9,7 +9,8 @@ use Rattle.heap_place.proofs.TakeLaws.{becomes_links, outside_not}
 use Rattle.heap_place.proofs.WithinLaws.{named_apart}
 
 -- the free chunks after it, as room
-pub run_spot : (image : List ℕ) (found : Found) (own behind : ℕ) → own ≡ need found.length → RunBehind image found behind → IsSpot image (found.place.0 - 8 + own) behind
+pub run_spot : (image : List ℕ) (found : Found) (own behind : ℕ) → own ≡ need found.length
+    → RunBehind image found behind → IsSpot image (found.place.0 - 8 + own) behind
 run_spot image found own behind e r =
     let ends = ends_behind e r.one in
     record {
@@ -34,8 +35,7 @@ run_outside {image} {found} there e h r b out = elim (AnyPlaced-split _ _ _ _ am
           let size = found_size image found r.one in
           absurd (elim out [ inl front ↦ omega arith | inr back ↦ omega arith ])
       | inr back ↦
-          let g = free_inside _ _ _ behind_it.1 back in
-          let size = found_size image found r.one in
+          let g = free_inside _ _ _ behind_it.1 back in let size = found_size image found r.one in
           inr (omega arith)
     ]
   ]
@@ -62,7 +62,8 @@ run_outside {image} {found} there e h r b out = elim (AnyPlaced-split _ _ _ _ am
   behind_it = EveryPlaced-split _ _ _ _ sizes.1.1
 
 -- every free chunk lies outside of no bytes where a chunk begins
-pub none_outside : {image : List ℕ} {at size : ℕ} (there : ℕ) → size ≡ 0 → HeapAccepted image → IsSpot image at size → BeginsFree image there → Outside at size there
+pub none_outside : {image : List ℕ} {at size : ℕ} (there : ℕ) → size ≡ 0 → HeapAccepted image
+    → IsSpot image at size → BeginsFree image there → Outside at size there
 none_outside {image} there none h r b = elim (AnyPlaced-split _ _ _ _ (rw r.chunks at b)) [
   | inl front ↦ let g = free_inside _ _ _ sizes.0 front in inl (omega arith)
   | inr back ↦ let g = free_inside _ _ _ sizes.1 back in inr (omega arith)
@@ -70,15 +71,15 @@ none_outside {image} there none h r b = elim (AnyPlaced-split _ _ _ _ (rw r.chun
   sizes : EveryPlaced TakesBytes (area_start image) r.before × EveryPlaced TakesBytes (area_start image + total r.before) (r.run ++ r.after)
   sizes = EveryPlaced-split _ _ _ _ (SpelledAll-takes _ _ _ _ (heap_in_parts _ _ h r.chunks).tiles.area)
 
-pub none_unlinked : {image heads : List ℕ} {at size : ℕ} → size ≡ 0 → HeapAccepted image → IsSpot image at size → HasLists image heads → AreLists (Outside at size) image heads
+pub none_unlinked : {image heads : List ℕ} {at size : ℕ} → size ≡ 0 → HeapAccepted image
+    → IsSpot image at size → HasLists image heads → AreLists (Outside at size) image heads
 none_unlinked none h r lists = lists_weaker Any _ _ _ (λ x b any. none_outside x none h r b) lists
 
 -- ---- what a resize keeps, and what is left
 
 pub resized_keeps : (old new : List ℕ) (found : Found) (count behind : ℕ) → HeapAccepted old → (r : RunBehind old found behind) → WasResized old new found count behind r → KeepsFree (Outside (found.place.0 - 8) (need found.length + behind)) old new
 resized_keeps old new found count behind h r w there out b =
-    let f = r.one.finds in
-    let c : Chunk = r.one.chunk in
+    let f = r.one.finds in let c : Chunk = r.one.chunk in
     let at : ℕ = found.place.0 - 8 in
     let parts = f.chunks ∙ ap (λ cs. f.before ++ c ∷ cs) r.parts in
     let size = found_size old found r.one in
@@ -97,7 +98,8 @@ resized_rest old new found count behind left h r w is some = by_gap left (chunks
   same : size_of c + behind - need count ≡ left
   same = let size = found_size old found r.one in omega arith
 
-  by_gap : (n : ℕ) → chunks_of new ≡ r.one.finds.before ++ ((d ∷ gap n) ++ r.rest) → 0 < n → IsFreeChunk new (found.place.0 - 8 + need count) n
+  by_gap : (n : ℕ) → chunks_of new ≡ r.one.finds.before ++ ((d ∷ gap n) ++ r.rest) → 0 < n
+      → IsFreeChunk new (found.place.0 - 8 + need count) n
   by_gap zero e none = absurd (omega arith)
   by_gap (suc n) e more =
       let start = same_start old new w.replaces.head in

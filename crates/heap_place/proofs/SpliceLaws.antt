@@ -14,7 +14,8 @@ walk_chain P (suc n) m here w c on =
     let l = walk_chain P n m here w.2 c on in
     record { count = suc l.count; chain = (w.0, l.chain); each = (w.1, l.each) }
 
-walk_length : (P : ℕ → Type 0) (image : List ℕ) (class n m from here : ℕ) → Walked P image class n from here → Chain image class m here → Chain image class (n + m) from
+walk_length : (P : ℕ → Type 0) (image : List ℕ) (class n m from here : ℕ)
+    → Walked P image class n from here → Chain image class m here → Chain image class (n + m) from
 walk_length P image class zero m from here w c = rw (let e : m ≡ 0 + m = omega arith in e) at (rw (← w) at c)
 walk_length P image class (suc n) m from here w c =
     let next : suc (n + m) ≡ suc n + m = omega arith in
@@ -45,7 +46,8 @@ spliced {old} {new} {class} n m {head} {here} {at} w other c next begins first k
     let on_now = weaker (λ x. (x ≢ here) × (x ≢ at)) _ new _ m _ (λ x f p. p.1) rest_now both_now in
     let here_now : IsFreeOf new class here = record { begins = begins; of_class = rw (← first) at c.0.of_class; positive = c.0.positive } in
     walk_chain (ButAt at) n (suc m) here (walk_kept n (suc (suc m)) head at keeps (λ x f k. free_kept f k) w c) (here_now, rw (← second) at rest_now) (other, rw (← second) at on_now) where
-      pair : (k x : ℕ) → OnChain (ButAt here) old k x → OnChain (ButAt at) old k x → OnChain (λ y. (y ≢ here) × (y ≢ at)) old k x
+      pair : (k x : ℕ) → OnChain (ButAt here) old k x → OnChain (ButAt at) old k x
+          → OnChain (λ y. (y ≢ here) × (y ≢ at)) old k x
       pair zero x a b = tt
       pair (suc k) x a b = ((a.0, b.0), pair k (second_of old x) a.1 b.1)
 
@@ -67,7 +69,8 @@ record Two (image : List ℕ) (class here : ℕ) : Type 0 where
   more : ℕ
   chain : Chain image class (suc (suc more)) here
 
-two_there : (image : List ℕ) (class left : ℕ) {here at : ℕ} → Chain image class left here → here ≢ 0 → second_of image here ≡ at → 0 < at → Two image class here
+two_there : (image : List ℕ) (class left : ℕ) {here at : ℕ} → Chain image class left here → here ≢ 0
+    → second_of image here ≡ at → 0 < at → Two image class here
 two_there image class zero c some next positive = absurd (some c)
 two_there image class (suc zero) c some next positive = absurd (omega arith)
 two_there image class (suc (suc n)) c some next positive = record { more = n; chain = c }
@@ -94,14 +97,16 @@ not_listed image heads class at a below s at_is = one_and_others _ _ _ _ a.count
 
 -- ---- the search
 
-pub look_more : {image heads : List ℕ} {class here at : ℕ} → Looking image heads class here at → here ≢ 0 → second_of image here ≢ at → Looking image heads class (second_of image here) at
+pub look_more : {image heads : List ℕ} {class here at : ℕ} → Looking image heads class here at
+    → here ≢ 0 → second_of image here ≢ at → Looking image heads class (second_of image here) at
 look_more {image} {heads} {class} {here} {at} s some other = by_left s.left s.rest where
   by_left : (n : ℕ) → Chain image class n here → Looking image heads class (second_of image here) at
   by_left zero c = absurd (some c)
   by_left (suc n) c = record { steps = suc s.steps; walked = walk_more (ButAt at) s.steps s.walked c.0 s.other; other = other; left = n; rest = c.1 }
 
 -- the one to which it has come
-pub looked_free : {image heads : List ℕ} {class here at : ℕ} → Looking image heads class here at → here ≢ 0 → IsFreeOf image class here
+pub looked_free : {image heads : List ℕ} {class here at : ℕ} → Looking image heads class here at
+    → here ≢ 0 → IsFreeOf image class here
 looked_free {image} {class} {here} s some = by_left s.left s.rest where
   by_left : (n : ℕ) → Chain image class n here → IsFreeOf image class here
   by_left zero c = absurd (some c)

@@ -6,9 +6,11 @@ use Rattle.heap_place.proofs.KeepLaws.{free_there}
 
 -- ---- a free chunk of a list
 
-pub begun_chunk : {image : List ℕ} (at : ℕ) → HeapAccepted image → BeginsFree image at → IsFreeChunk image at (size_field (u32_at image at))
+pub begun_chunk : {image : List ℕ} (at : ℕ) → HeapAccepted image → BeginsFree image at
+    → IsFreeChunk image at (size_field (u32_at image at))
 begun_chunk {image} at h b = of_parts (AnyPlaced-parts _ _ _ b) where
-  of_parts : PlacedParts (IsFreeAt at) (area_start image) (chunks_of image) → IsFreeChunk image at (size_field (u32_at image at))
+  of_parts : PlacedParts (IsFreeAt at) (area_start image) (chunks_of image)
+      → IsFreeChunk image at (size_field (u32_at image at))
   of_parts p = of_chunk p.chunk p.parts p.holds where
     of_chunk : (c : Chunk) → chunks_of image ≡ p.before ++ c ∷ p.after → IsFreeAt at (area_start image + total p.before) c → IsFreeChunk image at (size_field (u32_at image at))
     of_chunk (free size) e holds =
@@ -20,15 +22,16 @@ begun_chunk {image} at h b = of_parts (AnyPlaced-parts _ _ _ b) where
 pub listed_chunk : {image heads : List ℕ} (class : ℕ) → HeapAccepted image → HasLists image heads → class < class_count → slice_index heads class ≢ 0 → IsFreeChunk image (slice_index heads class) (size_field (u32_at image (slice_index heads class)))
 listed_chunk class h a below some = begun_chunk _ h (head_free _ a below (omega arith)).free.begins
 
-pub chunk_inside : {image : List ℕ} {at size : ℕ} → HeapAccepted image → IsFreeChunk image at size → (at + size ≤ length image) × (8 ≤ size) × (length image ≤ 16777208)
+pub chunk_inside : {image : List ℕ} {at size : ℕ} → HeapAccepted image → IsFreeChunk image at size
+    → (at + size ≤ length image) × (8 ≤ size) × (length image ≤ 16777208)
 chunk_inside {image} {at} {size} h f =
-    let m = chunk_middle h f in
-    (omega arith, (free_there image at size h f).header_fits, m.most)
+    let m = chunk_middle h f in (omega arith, (free_there image at size h f).header_fits, m.most)
 
 -- ---- room
 
 -- the chunk at its front
-pub spot_front : {image : List ℕ} {at size : ℕ} → HeapAccepted image → 8 ≤ size → IsSpot image at size → IsFreeChunk image at (size_field (u32_at image at))
+pub spot_front : {image : List ℕ} {at size : ℕ} → HeapAccepted image → 8 ≤ size
+    → IsSpot image at size → IsFreeChunk image at (size_field (u32_at image at))
 spot_front {image} {at} {size} h some r = by_run r.run r.all_free r.sums r.chunks where
   by_run : (run : List Chunk) → AllFree run → size ≡ total run → chunks_of image ≡ r.before ++ (run ++ r.after) → IsFreeChunk image at (size_field (u32_at image at))
   by_run [] f sums e = absurd (omega arith)
@@ -51,7 +54,8 @@ taken_all {old} {mid} {at} room least a keeps =
 -- the free chunk after what was cut off
 pub rest_chunk : {old mid : List ℕ} {at room : ℕ} (size : ℕ) → Becomes old mid (chunks_of old) → (r : IsSpot old at room) → CutsRoom old mid at room size → size < room → IsFreeChunk mid (at + size) (room - size)
 rest_chunk {old} {mid} {at} size b r cut less = by_gap _ (cut r) (omega arith) where
-  by_gap : (left : ℕ) → chunks_of mid ≡ r.before ++ (free size ∷ (gap left ++ r.after)) → 0 < left → IsFreeChunk mid (at + size) left
+  by_gap : (left : ℕ) → chunks_of mid ≡ r.before ++ (free size ∷ (gap left ++ r.after)) → 0 < left
+      → IsFreeChunk mid (at + size) left
   by_gap zero e some = absurd (omega arith)
   by_gap (suc n) e some =
       let start = frame_start old mid b.frame in
@@ -64,8 +68,10 @@ taken_rest {old} {mid} {at} room size least less a keeps p =
 
 -- ---- the same layout
 
-pub becomes_links : {old mid new : List ℕ} {cs : List Chunk} {at word : ℕ} → Becomes old mid cs → Links mid new at word → Becomes old new cs
+pub becomes_links : {old mid new : List ℕ} {cs : List Chunk} {at word : ℕ} → Becomes old mid cs
+    → Links mid new at word → Becomes old new cs
 becomes_links {old} {mid} {new} b l = record { frame = frame_then old mid new b.frame l.frame; layout = ap merged l.chunks ∙ b.layout }
 
-pub cut_links : (old : List ℕ) {mid new : List ℕ} (at room size : ℕ) {there word : ℕ} → CutsRoom old mid at room size → Links mid new there word → CutsRoom old new at room size
+pub cut_links : (old : List ℕ) {mid new : List ℕ} (at room size : ℕ) {there word : ℕ}
+    → CutsRoom old mid at room size → Links mid new there word → CutsRoom old new at room size
 cut_links old at room size cut l r = l.chunks ∙ cut r

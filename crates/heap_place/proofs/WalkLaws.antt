@@ -8,22 +8,26 @@ use Rattle.chunk_format.specs.declared.header.Header.TheVariants as headers
 pub passed_start : (image : List ℕ) (P : List Chunk → Type 0) → HeapAccepted image → P [] → Passed image P (area_start image)
 passed_start image P h none = record { front = []; spelled = refl; inside = omega arith; holds = none }
 
-pub passed_there : (image : List ℕ) (P : List Chunk → Type 0) (at : ℕ) → HeapAccepted image → Passed image P at → at < length image → (c : Chunk) × Spelled image at c
+pub passed_there : (image : List ℕ) (P : List Chunk → Type 0) (at : ℕ) → HeapAccepted image
+    → Passed image P at → at < length image → (c : Chunk) × Spelled image at c
 passed_there image P at h p inside = chunk_there image h.0 p.front at h.1.tiles p.spelled inside
 
-pub passed_chunk : {image : List ℕ} {P : List Chunk → Type 0} {at : ℕ} → HeapAccepted image → Passed image P at → at < length image → HasChunk image at
+pub passed_chunk : {image : List ℕ} {P : List Chunk → Type 0} {at : ℕ} → HeapAccepted image
+    → Passed image P at → at < length image → HasChunk image at
 passed_chunk {P} {at} h p inside = let c = passed_there _ P at h p inside in record { chunk = c.0; spelled = c.1 }
 
-pub passed_misses : {m : Memory} {P : List Chunk → Type 0} {at : ℕ} → HoldsHeap m → Passed m.bytes P at → at < length m.bytes → Misses m.lents at 8
+pub passed_misses : {m : Memory} {P : List Chunk → Type 0} {at : ℕ} → HoldsHeap m
+    → Passed m.bytes P at → at < length m.bytes → Misses m.lents at 8
 passed_misses {m} {at} h p inside = walked_misses m p.front at h.accepted h.lent p.spelled inside
 
-pub passed_size : (image : List ℕ) (at : ℕ) (header : Header) → HasHeader image at header → (8 ≤ size_by header) × (at + size_by header ≤ length image)
+pub passed_size : (image : List ℕ) (at : ℕ) (header : Header) → HasHeader image at header
+    → (8 ≤ size_by header) × (at + size_by header ≤ length image)
 passed_size image at header found =
     let e : size_by header ≡ size_of found.chunk = ap size_by found.header_is ∙ size_by-header_of found.chunk in
-    let s = Spelled-size image at found.chunk found.spelled in
-    (omega arith, omega arith)
+    let s = Spelled-size image at found.chunk found.spelled in (omega arith, omega arith)
 
-pub passed_at : (image : List ℕ) (P : List Chunk → Type 0) (at : ℕ) → (p : Passed image P at) → at ≡ area_start image + total p.front
+pub passed_at : (image : List ℕ) (P : List Chunk → Type 0) (at : ℕ) → (p : Passed image P at)
+    → at ≡ area_start image + total p.front
 passed_at image P at p = SpelledAll-end image (area_start image) p.front at p.spelled
 
 pushed : {image : List ℕ} (P : List Chunk → Type 0) {at : ℕ} {header : Header} → (p : Passed image P at) → (found : HasHeader image at header) → SpelledAll image (area_start image) (p.front ++ found.chunk ∷ []) (at + size_by header)
@@ -37,7 +41,8 @@ passed_more image P Q at header p found holds = record {
   holds = holds;
 }
 
-pub passed_all : (image : List ℕ) (P : List Chunk → Type 0) (at : ℕ) → HeapAccepted image → Passed image P at → length image ≤ at → P (chunks_of image)
+pub passed_all : (image : List ℕ) (P : List Chunk → Type 0) (at : ℕ) → HeapAccepted image
+    → Passed image P at → length image ≤ at → P (chunks_of image)
 passed_all image P at h p beyond =
     let end : at ≡ length image = omega arith in
     subst P (sym (chunks_of-area image p.front (rw end at p.spelled))) p.holds
@@ -61,8 +66,7 @@ free_within (c ∷ cs) = let s = sum_by-cons free_size c cs in let ih = free_wit
 
 pub free_fits : {image : List ℕ} (count : ℕ) {at : ℕ} → Passed image (HaveFreeBytes count) at → count ≤ at
 free_fits {image} count {at} p =
-    let there = passed_at image (HaveFreeBytes count) at p in
-    let within = free_within p.front in
+    let there = passed_at image (HaveFreeBytes count) at p in let within = free_within p.front in
     omega arith
 
 pub free_fits_by : (header : Header) → free_by header ≤ size_by header

@@ -1,6 +1,6 @@
 -- What is written in a live chunk after its first word, and in front of the chunks, keeps the free
 -- chunks.
-use Rattle.heap_place.proofs.Words.{◌≡◌, ℕ, ◌+◌, ◌-◌, ◌≤◌, List, [], ◌∷◌, ◌++◌, length, refl, sym, ap, subst, ◌∙◌, arith, inl, inr, Memory, u32_at, u32_bytes, overwritten, Chunk, free, need, size_of, total, Spelled, SpelledAll, area_start, HeapAccepted, LiveChunk, NamedHere, chunks_of, size_field, AnyPlaced, IsFreeAt, Spelled-size, SpelledAll-split, SpelledAll-same, SpelledAll-end, chunk_there, chunks_of-tiled, read_heap, SpelledAll-takes, free_inside, same_start, replaced_tiles, WroteWithin, wrote_none, wrote_part, wrote_word, wrote_wider, wrote_apart, wrote_word_apart, WroteArea, area_replaces, wrote_head, Found, IsOne, Any, KeepsFree, HasLists, HoldNoSlots}
+use Rattle.heap_place.proofs.Words.{◌≡◌, ℕ, ◌+◌, ◌-◌, ◌≤◌, List, [], ◌∷◌, ◌++◌, length, refl, sym, ap, subst, ◌∙◌, arith, inl, inr, Memory, u32_at, u32_bytes, overwritten, Chunk, free, need, size_of, total, Spelled, area_start, HeapAccepted, LiveChunk, NamedHere, chunks_of, size_field, Spelled-size, SpelledAll-split, SpelledAll-same, SpelledAll-end, chunk_there, chunks_of-tiled, read_heap, SpelledAll-takes, free_inside, same_start, replaced_tiles, WroteWithin, wrote_none, wrote_part, wrote_word, wrote_wider, wrote_apart, wrote_word_apart, WroteArea, area_replaces, wrote_head, Found, IsOne, Any, KeepsFree, HasLists, HoldNoSlots}
 use Rattle.heap_model.specs.Frame.{directory_at}
 use Rattle.heap_model.specs.Leaving.{NamesDirectory}
 use Rattle.laws_heap.proofs.Directory.{named_start}
@@ -19,8 +19,7 @@ pub keeps_within : {old new : List ℕ} (before : List Chunk) (c : Chunk) (after
 keeps_within {old} {new} before c after {at} h g was is none w =
     let heap = heap_in_parts old (before ++ c ∷ after) h was in
     let m = middle_of old before (c ∷ []) after at heap is in
-    let size = Spelled-size old at c m.spelled.0 in
-    let len = w.len in
+    let size = Spelled-size old at c m.spelled.0 in let len = w.len in
     let wide = wrote_wider old new (at + 4) (at + size_of c) at (at + (size_of c + 0)) w (omega arith) (omega arith) in
     let same = wrote_head old new before (c ∷ []) after at heap.tiles none is wide in
     let start = same_start old new same in
@@ -48,15 +47,13 @@ keeps_found {old} {found} h g f w there any b =
 -- its second word
 pub keeps_second : {old new : List ℕ} {found : Found} (word : ℕ) → HeapAccepted old → HeapAccepted new → IsOne old found → new ≡ overwritten old (found.place.0 - 8 + 4) (u32_bytes word) → KeepsFree Any old new
 keeps_second {old} {new} {found} word h g f is =
-    let at : ℕ = found.place.0 - 8 in
-    let inside = bytes_inside old found h f in
+    let at : ℕ = found.place.0 - 8 in let inside = bytes_inside old found h f in
     keeps_found h g f (wrote_wider old new _ _ _ _ (wrote_word old new _ word is (omega arith)) (omega arith) (omega arith))
 
 -- a part of its body
 pub keeps_body : (old new : List ℕ) (found : Found) (at : ℕ) (part : List ℕ) → HeapAccepted old → IsOne old found → at + length part ≤ found.length → new ≡ overwritten old (found.place.0 + at) part → KeepsFree Any old new
 keeps_body old new found at part h f within is =
-    let inside = bytes_inside old found h f in
-    let there : ℕ = found.place.0 - 8 in
+    let inside = bytes_inside old found h f in let there : ℕ = found.place.0 - 8 in
     keeps_found h (written_there old new found at part h f within is).0.frame.accepted f
     (wrote_wider old new _ _ _ _ (wrote_part old new _ part is (omega arith)) (omega arith) (omega arith))
 
@@ -69,8 +66,7 @@ body_lists old region new heads found at part same h f within is lists =
 
 pub keeps_directory : {old new : List ℕ} {word : ℕ} → HeapAccepted old → new ≡ overwritten old directory_at (u32_bytes word) → NamesDirectory old new word → KeepsFree Any old new
 keeps_directory {old} {new} {word} h is names there any b =
-    let heap = read_heap old h in
-    let w = wrote_word old new 12 word is (omega arith) in
+    let heap = read_heap old h in let w = wrote_word old new 12 word is (omega arith) in
     let f = free_inside _ _ _ (SpelledAll-takes old _ _ _ heap.tiles.area) b in
     let all = SpelledAll-end old (area_start old) (chunks_of old) (length old) heap.tiles.area in
     let start = named_start old new word names in

@@ -10,8 +10,7 @@ put_lock-requires-clause-inside c = one_within _ _ c.requires.heap.accepted c.re
 
 pub returns : goal.returns
 returns c =
-    let r = c.requires in
-    let is = same_bytes c.put_lock.ensures.after in
+    let r = c.requires in let is = same_bytes c.put_lock.ensures.after in
     let done = relocked_there _ r.heap.accepted r.found r.movable r.owned c.put_lock.ensures.relocked is in
     record {
       made = done.0;

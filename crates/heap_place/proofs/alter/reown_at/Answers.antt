@@ -10,8 +10,7 @@ put_owner-requires-clause-inside c = one_within _ _ c.requires.heap.accepted c.r
 
 pub returns : goal.returns
 returns c =
-    let r = c.requires in
-    let is = same_bytes c.put_owner.ensures.after in
+    let r = c.requires in let is = same_bytes c.put_owner.ensures.after in
     let done = reowned_there _ r.heap.accepted r.found r.owner c.put_owner.ensures.reowned is in
     record {
       made = done.0;

@@ -7,8 +7,7 @@ use Rattle.heap_place.proofs.directory.name_directory.Goals as goal
 
 pub returns : goal.returns
 returns c =
-    let h = c.requires.heap in
-    let is = same_bytes c.put_directory.ensures.after in
+    let h = c.requires.heap in let is = same_bytes c.put_directory.ensures.after in
     let done = directory_written _ _ _ h.accepted is (omega arith) c.requires.managers in
     record {
       names = done.0;

@@ -1,5 +1,5 @@
 -- The first chunk of a list is free, and its first word has its size.
-use Rattle.heap_place.proofs.Words.{sym, subst, ◌∙◌, u32_at, size_field, IsSpot, IsWithin}
+use Rattle.heap_place.proofs.Words.{sym, subst, ◌∙◌, IsSpot, IsWithin}
 use Rattle.heap_place.proofs.SpotLaws.{chunk_spot}
 use Rattle.heap_place.proofs.TakeLaws.{listed_chunk}
 use Rattle.heap_place.proofs.LentLaws.{first_within}

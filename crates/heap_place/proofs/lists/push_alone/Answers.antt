@@ -1,5 +1,5 @@
 -- The chunk is put into lists that are empty, so only it is in them.
-use Rattle.heap_place.proofs.Words.{sym, subst, AreLists, ButAt}
+use Rattle.heap_place.proofs.Words.{ButAt}
 use Rattle.heap_place.proofs.ListLaws.{new_lists}
 use Rattle.heap_place.proofs.AlikeLaws.{one_word}
 use Rattle.heap_place.proofs.GatherLaws.{alone_lists}

@@ -1,5 +1,5 @@
 -- The room is put into its list, or there is none.
-use Rattle.heap_place.proofs.Words.{◌-◌, arith, Before}
+use Rattle.heap_place.proofs.Words.{arith}
 use Rattle.heap_place.proofs.ListLaws.{lists_weaker}
 use Rattle.heap_place.proofs.TakeLaws.{chunk_inside}
 use Rattle.heap_place.proofs.AlikeLaws.{no_words, one_word}

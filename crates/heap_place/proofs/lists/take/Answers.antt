@@ -11,8 +11,7 @@ cut-requires-clause-room c = alike_spot _ _ _ _ c.unlink.ensures.same c.requires
 
 pub overflow_add-room : goal.overflow_add-room
 overflow_add-room c =
-    let f = room_facts _ _ _ c.requires.heap.accepted c.requires.room in
-    omega arith
+    let f = room_facts _ _ _ c.requires.heap.accepted c.requires.room in omega arith
 
 pub push-requires-clause-free : goal.push-requires-clause-free
 push-requires-clause-free c =

@@ -8,8 +8,7 @@ overflow_sub-place c = slot_low c.requires.heap.accepted c.requires.holds
 
 pub live_fields-fields-requires : goal.live_fields-fields-requires
 live_fields-fields-requires c =
-    let heap = c.requires.heap in
-    let i = held_slot heap.accepted c.requires.holds in
+    let heap = c.requires.heap in let i = held_slot heap.accepted c.requires.holds in
     record { live = slot_live heap.accepted c.requires.holds; small = omega arith; misses = (found_within c.args.region.now _ i.live _ _ heap.accepted heap.lent i.finds).misses }
 
 pub returns : goal.returns

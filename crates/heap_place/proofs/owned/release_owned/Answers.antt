@@ -1,5 +1,5 @@
 -- When the walk ends, all chunks of the owner are free.
-use Rattle.heap_place.proofs.Words.{refl, sym, ap, subst, ◌∙◌, arith, Memory, NoneOwned, Freeing, same_lents}
+use Rattle.heap_place.proofs.Words.{refl, sym, ap, ◌∙◌, arith, Memory, NoneOwned, same_lents}
 use Rattle.heap_place.proofs.OwnedLaws.{owned_one, owned_apart, freeing_start, freeing_there, freeing_kept, freeing_more, freeing_all, owned_other}
 use Rattle.heap_place.proofs.WalkLaws.{passed_misses}
 use Rattle.heap_place.proofs.LentOwners.{freed_none_lent}
@@ -15,8 +15,7 @@ at_with_size-header-requires c =
 
 pub release-at-requires : goal.release-at-requires
 release-at-requires c =
-    let i = c.loop-at.invariant in
-    let header = c.at_with_size-header.ensures.header in
+    let i = c.loop-at.invariant in let header = c.at_with_size-header.ensures.header in
     let is = sym c.if_owned.ensures ∙ c.in-Some.is in
     let one = owned_one (NoneOwned c.args.owner) c.args.owner i.0.frame.accepted c.requires.some_owner i.0.passed header is in
     record { heap = i.2; found = one; other = owned_other c.loop-at.region c.args.owner i.3 one header is; no_directory = owned_apart c.args.owner i.0.frame.accepted one header is c.requires.some_owner }
@@ -41,8 +40,7 @@ loop-at-smaller-in-Some c =
 
 pub loop-at-preserved-in-Some : goal.loop-at-preserved-in-Some
 loop-at-preserved-in-Some c =
-    let i = c.loop-at.invariant in
-    let e = c.release-at.ensures in
+    let i = c.loop-at.invariant in let e = c.release-at.ensures in
     let header = c.at_with_size-header.ensures.header in
     let is = sym c.if_owned.ensures ∙ c.in-Some.is in
     let one = owned_one (NoneOwned c.args.owner) c.args.owner i.0.frame.accepted c.requires.some_owner i.0.passed header is in (
@@ -59,6 +57,5 @@ loop-at-preserved c =
 
 pub returns : goal.returns
 returns c =
-    let i = c.loop-at.invariant in
-    let all = freeing_all i.0 (omega arith) in
+    let i = c.loop-at.invariant in let all = freeing_all i.0 (omega arith) in
     record { gone = all.0; count = all.1; plain = all.2; rest = i.1; heap = i.2 }

@@ -27,6 +27,5 @@ free_size-size-requires c =
 
 pub free_size-size-requires-in-loop-size : goal.free_size-size-requires-in-loop-size
 free_size-size-requires-in-loop-size c =
-    let h = c.requires.heap.accepted in
-    let i = c.loop-size.invariant in
+    let h = c.requires.heap.accepted in let i = c.loop-size.invariant in
     record { small = omega arith; chunks = from_running c.requires.bound i.0 (omega arith); misses = bound_misses c.requires.heap (bound_on h i.1 i.0.there (omega arith)) }

@@ -1,5 +1,5 @@
 -- The walk finds a run with the room, or has passed all chunks and found none.
-use Rattle.heap_place.proofs.Words.{◌<◌, ◌+◌, ◌++◌, ◌-◌, sym, subst, arith, size_by, IsRoom, Searched, walked_misses}
+use Rattle.heap_place.proofs.Words.{◌+◌, ◌++◌, ◌-◌, sym, subst, arith, IsRoom, Searched, walked_misses}
 use Rattle.heap_place.proofs.RoomLaws.{search_start, search_there, search_fits, search_size, search_more, search_found, search_none}
 use Rattle.heap_place.proofs.room.find_room.Goals as goal
 
@@ -16,13 +16,11 @@ at_with_size-header-requires c =
 pub run_with-run_size-requires : goal.run_with-run_size-requires
 run_with-run_size-requires c =
     let fits = search_fits c.loop-at.invariant in
-    let size = search_size c.loop-at.invariant c.at_with_size-header.ensures.header in
-    omega arith
+    let size = search_size c.loop-at.invariant c.at_with_size-header.ensures.header in omega arith
 
 pub overflow_sub-result : goal.overflow_sub-result
 overflow_sub-result c =
-    let size = search_size c.loop-at.invariant c.at_with_size-header.ensures.header in
-    omega arith
+    let size = search_size c.loop-at.invariant c.at_with_size-header.ensures.header in omega arith
 
 pub returns-then-run_size-size-clause-room : goal.returns-then-run_size-size-clause-room
 returns-then-run_size-size-clause-room c =
@@ -33,8 +31,7 @@ returns-then-run_size-size-clause-room c =
 
 pub loop-at-preserved : goal.loop-at-preserved
 loop-at-preserved c =
-    let image = c.args.region.now.bytes in
-    let small = c.if-run_size-size.false in
+    let image = c.args.region.now.bytes in let small = c.if-run_size-size.false in
     let more = search_more c.loop-at.invariant c.at_with_size-header.ensures.header (rw c.run_with-run_size.ensures at small) in
     subst (λ n. Searched image c.args.size (c.loop-at.at + n) c.run_with-run_size.result) (sym c.at_with_size-header.ensures.size)
     (rw (← c.run_with-run_size.ensures) at more)

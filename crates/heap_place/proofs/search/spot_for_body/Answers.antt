@@ -1,5 +1,5 @@
 -- A body that no image can have has no room.
-use Rattle.heap_place.proofs.Words.{arith, need}
+use Rattle.heap_place.proofs.Words.{arith}
 use Rattle.laws_heap.proofs.Fits.{no_run_beyond}
 use Rattle.heap_place.proofs.search.spot_for_body.Goals as goal
 

@@ -12,8 +12,7 @@ pub overflow_add-count : goal.overflow_add-count
 overflow_add-count c =
     let fits = free_fits c.loop-at.count c.loop-at.invariant in
     let size = passed_size _ _ _ c.at_with_size-header.ensures.header in
-    let within = free_fits_by c.at_with_size-header.result.0 in
-    omega arith
+    let within = free_fits_by c.at_with_size-header.result.0 in omega arith
 
 pub loop-at-preserved : goal.loop-at-preserved
 loop-at-preserved c =
