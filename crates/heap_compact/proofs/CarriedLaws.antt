@@ -13,7 +13,6 @@ carried_total by (c ∷ cs) = let size = carried_size by c in let rest = carried
 pub Spelled-carried : {xs ys : List ℕ} {at by : ℕ} (c : Chunk) → Carries by at (at + size_of c) xs ys → at + by + size_of c ≤ length ys → Spelled xs at c → Spelled ys (at + by) (carried by c)
 Spelled-carried (free size) carry inside s = IsFree-carried _ _ _ _ _ carry inside s
 Spelled-carried {at} (movable bytes lock owner slot) carry inside s =
-    let way : slot ≡ slot_named at s.0 = s.4 in
     (s.0, IsLive-carried _ _ _ _ _ _ _ _ carry inside s.1, s.2, s.3, omega arith)
 Spelled-carried (fixed bytes owner) carry inside s = IsLive-carried _ _ _ _ _ _ _ _ carry inside s
 
@@ -31,8 +30,7 @@ SpelledAll-carried {xs} {ys} at {by} (c ∷ cs) {end} carry inside s =
 
 -- moved down, the bytes of a live chunk have the same header and body
 pub IsLive-carried_down : {xs ys : List ℕ} {at by : ℕ} {bytes : List ℕ} {lock owner way : ℕ} → Carries by at (at + need (length bytes)) xs ys → at + need (length bytes) ≤ length xs → IsLive ys (at + by) bytes lock owner way → IsLive xs at bytes lock owner way
-IsLive-carried_down {xs} {ys} {at} {by} {bytes} {lock} {owner} carry inside s =
-    let was : at + by + need (length bytes) ≤ length ys = s.inside in
+IsLive-carried_down {ys} {at} {by} {bytes} {lock} {owner} carry inside s =
     let first = u32_at-carried at by _ _ _ _ carry (omega arith) (omega arith) in
     let second = u32_at-carried (at + 4) by _ _ _ _ carry (omega arith) (omega arith) in
     let body = slice-carried _ _ by _ _ _ _ carry (omega arith) (omega arith) (omega arith) (omega arith) in
@@ -45,6 +43,6 @@ IsLive-carried_down {xs} {ys} {at} {by} {bytes} {lock} {owner} carry inside s =
       lock_fits = s.lock_fits;
       owner_fits = s.owner_fits;
       h_offset_fits = s.h_offset_fits;
-      body = ap (seen lock owner) (sym body ∙ sym (ap (λ (n : ℕ). take (n + length bytes - n) (drop n ys)) f)) ∙ s.body;
+      body = ap (seen lock owner) (sym body ∙ sym (ap (λ n. take (n + length bytes - n) (drop n ys)) f)) ∙ s.body;
       inside = inside;
     }

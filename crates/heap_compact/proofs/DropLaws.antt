@@ -24,7 +24,7 @@ pub record DropFacts {old : List ℕ} {at room size slot : ℕ} (d : IsDroppable
   pub inside : to + room + need (length d.bytes) ≤ length old
 
 pub drop_facts : {old : List ℕ} {at room size slot : ℕ} (to : ℕ) → HeapAccepted old → (d : IsDroppable old at room size slot) → to ≡ at - room → DropFacts d to
-drop_facts {old} {at} {room} {size} {slot} to h d e =
+drop_facts {old} {at} {room} {slot} to h d e =
     let c : Chunk = movable d.bytes 0 d.owner slot in
     let heap = heap_in_parts _ _ h d.chunks in
     let to_is : to ≡ area_start old + total d.before = omega (arith, d.there, e) in
@@ -210,7 +210,7 @@ pub record JoinFacts (old : List ℕ) (before : List Chunk) (size : ℕ) (after 
 
 pub join_facts : {old : List ℕ} (before : List Chunk) (size : ℕ) (after : List Chunk) {at : ℕ} (room to : ℕ) → HeapAccepted old → chunks_of old ≡ before ++ (gap room ++ free size ∷ after) → at ≡ area_start old + total before + room → to ≡ at - room → JoinFacts old before size after at room to
 join_facts {old} before size after {at} room to h chunks there e =
-    let heap = heap_in_parts _ _ h (chunks ∙ ap (λ (cs : List Chunk). before ++ cs) (sym (append_assoc (gap room) (free size ∷ []) after))) in
+    let heap = heap_in_parts _ _ h (chunks ∙ ap (λ cs. before ++ cs) (sym (append_assoc (gap room) (free size ∷ []) after))) in
     let to_is : to ≡ area_start old + total before = omega (arith, there, e) in
     let m = middle_of _ before (gap room ++ free size ∷ []) after _ heap to_is in
     let a = total-append (gap room) (free size ∷ []) in
@@ -233,7 +233,7 @@ joined {old} {new} {before} {size} {after} {room} {to} f is header =
     let slots = wrote_slots _ _ before mid after _ f.heap.tiles none f.to_is all in
     let heap = free_replaced _ _ _ _ _ _ _ f.heap r slots (free_push (gap room) size (gap_free room)) tt in
     let g = sym (gap_some (room + size) (omega (arith, least))) in
-    let written : u32_at new to ≡ 2 ^ 31 + (room + size) = ap (λ (bs : List ℕ). u32_at bs to) is ∙ u32_at-written (2 ^ 31 + (room + size)) to old (omega (arith, f.middle.inside, f.sizes, least)) (omega (arith, f.middle.inside, f.sizes, f.middle.most)) in
+    let written = ap (λ bs. u32_at bs to) is ∙ u32_at-written (2 ^ 31 + (room + size)) to old (omega (arith, f.middle.inside, f.sizes, least)) (omega (arith, f.middle.inside, f.sizes, f.middle.most)) in
     let plain = replaced_plain _ _ _ _ _ _ _ (chunks_of-tiled _ _ f.heap.tiles) heap r (free_plain new to (room + size) [] written (omega (arith, f.middle.inside, f.sizes, f.middle.most)) (λ there none. absurd none)) in
     let exact = exactly_heap r.head heap plain in
     let was : chunks_of old ≡ before ++ (mid ++ after) = chunks_of-tiled _ _ f.heap.tiles in (

@@ -5,7 +5,7 @@ pub exactly_heap : {old new : List ℕ} {cs : List Chunk} → SameHead old new �
 exactly_heap same h plain = record { frame = frame_of _ _ _ same h; exact = chunks_of-tiled _ _ h.tiles; plain = plain }
 
 pub exactly_itself : {image : List ℕ} {cs : List Chunk} → HeapAccepted image → chunks_of image ≡ cs → BecomesExactly image image cs
-exactly_itself {image} h is = record { frame = same_frame _ h; exact = is; plain = plain_same _ }
+exactly_itself h is = record { frame = same_frame _ h; exact = is; plain = plain_same _ }
 
 pub exactly_then : {old mid new : List ℕ} {cs ds : List Chunk} → BecomesExactly old mid cs → BecomesExactly mid new ds → BecomesExactly old new ds
 exactly_then {old} {mid} {new} a b = record { frame = frame_then _ _ _ a.frame b.frame; exact = b.exact; plain = plain_then old mid new a.plain b.plain }

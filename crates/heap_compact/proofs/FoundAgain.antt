@@ -28,7 +28,7 @@ pub moved_owner : {old mid : List ℕ} (new : List ℕ) (found : Found) {at size
 unfolding owner_under
 moved_owner {old} {mid} new found {at} {size} count h f unlocked is n r fits moved =
     let g : IsOne mid found = named_one found n f in
-    let owned : f.live.owner ≡ managers_owner = directory_owned _ _ h (sym (ap (held old) is) ∙ one_held _ _ h f) in
+    let owned = directory_owned _ _ h (sym (ap (held old) is) ∙ one_held _ _ h f) in
     when_movable _ _ _ g (λ c k. Relocates mid new (found.place.0 - 8) at size (with_length count c) → owner_of (held new found.name.0) ≡ managers_owner) (λ e. omega arith)
     (λ bytes lock owner slot k x. ap owner_of (relocate_changes _ new _ _ _ _ _ _ _ _ _ _ n.accepted k r fits x).here ∙ owned)
     (moved g)
@@ -41,5 +41,4 @@ same_found {old} found h b f = found_held _ found f.live b.frame.accepted (becom
 
 pub then_freed : {old mid : List ℕ} (new : List ℕ) (found : Found) → HeapAccepted old → Becomes old mid (chunks_of old) → IsOne old found → Alters mid new (found.place.0 - 8) freed → Alters old new (found.place.0 - 8) freed
 then_freed {old} {mid} new found h b f x =
-    let m = same_found found h b f in
-    record { frame = frame_then _ _ _ b.frame x.frame; layout = x.layout ∙ ap merged (ap (λ (cs : List Chunk). exchanged (found.place.0 - 8) (λ chunk. freed chunk ∷ []) (area_start mid) cs) b.layout ∙ ap (λ (n : ℕ). exchanged (found.place.0 - 8) (λ chunk. freed chunk ∷ []) n (layout_of old)) (becomes_start _ _ _ b)) }
+    record { frame = frame_then _ _ _ b.frame x.frame; layout = x.layout ∙ ap merged (ap (λ cs. exchanged (found.place.0 - 8) (λ chunk. freed chunk ∷ []) (area_start mid) cs) b.layout ∙ ap (λ n. exchanged (found.place.0 - 8) (λ chunk. freed chunk ∷ []) n (layout_of old)) (becomes_start _ _ _ b)) }

@@ -12,10 +12,10 @@ viewed_kept known view f knows = tables_kept known f (rw view at knows)
 
 -- so the space is one
 pub kept_space : {old : List ℕ} {new : Memory} {heads : List ℕ} {known : Remembered} → HoldsHeap new → HasLists new.bytes heads → SameFrame old new.bytes → KnowsTables old known → IsSpace new heads known
-kept_space {known} heap lists f knows = record { heap = heap; lists = lists; tables = tables_kept _ f knows }
+kept_space heap lists f knows = record { heap = heap; lists = lists; tables = tables_kept _ f knows }
 
 pub viewed_space : {old region new : Memory} {heads : List ℕ} {known : Remembered} → region ≡ old → HoldsHeap new → HasLists new.bytes heads → SameFrame old.bytes new.bytes → KnowsTables region.bytes known → IsSpace new heads known
-viewed_space {known} view heap lists f knows = record { heap = heap; lists = lists; tables = viewed_kept _ view f knows }
+viewed_space view heap lists f knows = record { heap = heap; lists = lists; tables = viewed_kept _ view f knows }
 
 -- so it holds the heap
 pub viewed_heap : {old region : Memory} → region ≡ old → HoldsHeap region → HoldsHeap old

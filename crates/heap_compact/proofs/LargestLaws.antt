@@ -10,24 +10,23 @@ raised more [] = more ∷ []
 raised more (room ∷ others) = (more + room) ∷ others
 
 raised_onto : (more : ℕ) (c : Chunk) (runs : List (List Chunk)) → raised more (rooms_of (onto_first c runs)) ≡ raised (more + free_size c) (rooms_of runs)
-raised_onto more c [] = let s = sum_by-cons free_size c [] in let none : sum_by free_size [] ≡ 0 = refl in ap (λ (n : ℕ). n ∷ []) (let e : more + room_of (c ∷ []) ≡ more + free_size c = omega arith in e)
-raised_onto more c (run ∷ runs) = let s = sum_by-cons free_size c run in ap (λ (n : ℕ). n ∷ rooms_of runs) (let e : more + room_of (c ∷ run) ≡ more + free_size c + room_of run = omega arith in e)
+raised_onto more c [] = let s = sum_by-cons free_size c [] in let none : sum_by free_size [] ≡ 0 = refl in ap (λ n. n ∷ []) (let e : more + room_of (c ∷ []) ≡ more + free_size c = omega arith in e)
+raised_onto more c (run ∷ runs) = let s = sum_by-cons free_size c run in ap (λ n. n ∷ rooms_of runs) (let e : more + room_of (c ∷ run) ≡ more + free_size c + room_of run = omega arith in e)
 
 raised_none : (some : List ℕ) → greatest (raised 0 some) ≡ greatest some
 raised_none [] = refl
-raised_none (room ∷ others) = ap (λ (n : ℕ). max n (greatest _)) (let e : 0 + room ≡ room = omega arith in e)
+raised_none (room ∷ others) = ap (λ n. max n (greatest _)) (let e : 0 + room ≡ room = omega arith in e)
 
 stays_behind : (more : ℕ) (cs : List Chunk) → greatest_behind 0 cs ≡ greatest (raised 0 (rooms_of (runs_between cs))) → max more (greatest_behind 0 cs) ≡ greatest (raised more (rooms_of ([] ∷ runs_between cs)))
 stays_behind more cs e =
     let rest = e ∙ raised_none (rooms_of (runs_between cs)) in
-    let none : room_of [] ≡ 0 = refl in
-    ap (λ (n : ℕ). max more n) rest ∙ ap (λ (n : ℕ). max n (greatest _)) (let e : more ≡ more + room_of [] = omega arith in e)
+    ap (λ n. max more n) rest ∙ ap (λ n. max n (greatest _)) (let e : more ≡ more + room_of [] = omega arith in e)
 
 runs_greatest : (more : ℕ) (cs : List Chunk) → greatest_behind more cs ≡ greatest (raised more (rooms_of (runs_between cs)))
 runs_greatest more [] = let none : room_of [] ≡ 0 = refl in let e : more ≡ max (more + room_of []) 0 = omega arith in e
 runs_greatest more (free size ∷ cs) = runs_greatest (more + size) cs ∙ sym (ap greatest (raised_onto more (free size) (runs_between cs)))
 runs_greatest more (movable bytes zero owner slot ∷ cs) =
-    runs_greatest more cs ∙ ap (λ (n : ℕ). greatest (raised n (rooms_of (runs_between cs)))) (let e : more ≡ more + 0 = omega arith in e) ∙ sym (ap greatest (raised_onto more (movable bytes 0 owner slot) (runs_between cs)))
+    runs_greatest more cs ∙ ap (λ n. greatest (raised n (rooms_of (runs_between cs)))) (let e : more ≡ more + 0 = omega arith in e) ∙ sym (ap greatest (raised_onto more (movable bytes 0 owner slot) (runs_between cs)))
 runs_greatest more (movable bytes (suc count) owner slot ∷ cs) = stays_behind more cs (runs_greatest 0 cs)
 runs_greatest more (fixed bytes owner ∷ cs) = stays_behind more cs (runs_greatest 0 cs)
 
@@ -69,7 +68,7 @@ rooms_go_on {cs} (free size) loose h = record {
 rooms_go_on {largest} {room} {cs} (movable bytes zero owner slot) loose h = record {
   on = λ others.
       ap (greatest_behind 0) (append_assoc cs (movable bytes 0 owner slot ∷ []) others)
-      ∙ h.on (movable bytes 0 owner slot ∷ others) ∙ ap (λ (n : ℕ). max largest (greatest_behind n others)) (let e : room ≡ room + 0 = omega arith in e);
+      ∙ h.on (movable bytes 0 owner slot ∷ others) ∙ ap (λ n. max largest (greatest_behind n others)) (let e : room ≡ room + 0 = omega arith in e);
   fits = let low = h.fits in let more = more_total cs (movable bytes 0 owner slot) in omega arith;
 }
 rooms_go_on (movable bytes (suc count) owner slot) loose h = absurd (loose (omega arith))

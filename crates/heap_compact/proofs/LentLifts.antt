@@ -6,7 +6,7 @@ use Rattle.heap_compact.proofs.LiftedWalkLaws.{some_size}
 -- ---- the chunks that are lifted, and the free one after them
 
 in_parts : {image : List ℕ} {start end gap : ℕ} (b : HasFreeBehind image start end gap) → chunks_of image ≡ b.before ++ ((b.mid ++ free gap ∷ []) ++ b.after)
-in_parts {gap} b = b.chunks ∙ ap (λ (cs : List Chunk). b.before ++ cs) (sym (append_assoc b.mid (free gap ∷ []) b.after))
+in_parts {gap} b = b.chunks ∙ ap (λ cs. b.before ++ cs) (sym (append_assoc b.mid (free gap ∷ []) b.after))
 
 none_stay : {image : List ℕ} {start end gap : ℕ} (b : HasFreeBehind image start end gap) → NoneStays (b.mid ++ free gap ∷ [])
 none_stay {gap} b = (none_stays-append b.mid (free gap ∷ [])).1 (b.loose, tt)
@@ -34,7 +34,7 @@ pub table_still : {old : Memory} (new : Memory) → HasTable old → new.lents �
 table_still {old} new t same len tables = record {
   lie = tables_lie _ new.bytes len tables t.lie;
   first_misses = rw (← same) at (rw (← (ends_listed old.bytes new.bytes tables)) at t.first_misses);
-  slots_miss = subst (λ (x : List Lent). EveryOne (λ slot. Misses x slot slot_size) (slots_of new.bytes)) (sym same)
+  slots_miss = subst (λ x. EveryOne (λ slot. Misses x slot slot_size) (slots_of new.bytes)) (sym same)
       (rw (← (same_slots old.bytes new.bytes tables)) at t.slots_miss);
 }
 
@@ -45,7 +45,7 @@ walk_table now w a same t =
 
 -- a slot, once the header of a chunk is written
 pub slot_again_within : {old : Memory} (new : Memory) {slot : ℕ} → HasTable old → IsSlot old.bytes slot → new.lents ≡ old.lents → TablesLie new.bytes → IsSlot new.bytes slot → IsWithin new slot 4
-slot_again_within {old} new {slot} t s same lie again = record {
+slot_again_within {old} new t s same lie again = record {
   inside = each_slot (λ n. n + slot_size ≤ length new.bytes) _ lie.slots _ again;
   misses = rw (← same) at (each_slot (λ n. Misses old.lents n slot_size) _ t.slots_miss _ s);
 }
@@ -53,7 +53,7 @@ slot_again_within {old} new {slot} t s same lie again = record {
 -- ---- the header at which the walk has come
 
 pub walk_misses : {first image : List ℕ} (lents : List Lent) {gap start at end : ℕ} → Walks first image gap start at end → AreCarried first gap start end → at < end → Misses lents start (end - start) → Misses lents at 8
-walk_misses {image} lents {start} {at} {end} w a more m = by_back s.back s.lifting s.ends where
+walk_misses {image} lents {at} {end} w a more m = by_back s.back s.lifting s.ends where
   s : MendedUpTo a.lift image a.done a.rest at end
   s = w a.lift a.done a.rest a.lifting a.ends
 

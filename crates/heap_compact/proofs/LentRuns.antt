@@ -7,7 +7,7 @@ use Rattle.heap_compact.proofs.Words.{◌≡◌, ◌≢◌, ℕ, zero, suc, ◌+
 pub front_within : {m : Memory} {found : Found} {n : ℕ} → HoldsHeap m → IsOne m.bytes found → LendsOther m found.place.0 → n ≤ found.length → IsWithin m found.place.0 n
 front_within {m} {found} {n} h f other few =
     let start : found.place.0 + 0 ≡ found.place.0 = omega arith in
-    subst (λ (k : ℕ). IsWithin m k n) start (one_body_within m _ 0 n h.accepted h.lent f other (omega (arith, few)))
+    subst (λ k. IsWithin m k n) start (one_body_within m _ 0 n h.accepted h.lent f other (omega (arith, few)))
 
 pub regrown_within : {m : Memory} {found : Found} {more : ℕ} → HoldsHeap m → (r : RunBehind m.bytes found more) → LendsOther m found.place.0 → IsWithin m (found.place.0 - 8) (need found.length + more)
 regrown_within {m} {found} {more} h r other =
@@ -20,7 +20,7 @@ regrown_within {m} {found} {more} h r other =
           let p = lent_chunk m.bytes lent x in
           let size = found_size m.bytes found r.one in
           let t = total-append f.before (r.one.chunk ∷ []) in
-          let e : m_chunks ≡ (f.before ++ r.one.chunk ∷ []) ++ (r.run ++ r.rest) = f.chunks ∙ ap (λ (cs : List Chunk). f.before ++ r.one.chunk ∷ cs) r.parts ∙ sym (append_assoc f.before (r.one.chunk ∷ []) (r.run ++ r.rest)) in
+          let e = f.chunks ∙ ap (λ cs. f.before ++ r.one.chunk ∷ cs) r.parts ∙ sym (append_assoc f.before (r.one.chunk ∷ []) (r.run ++ r.rest)) in
           elim (apart f.before r.one.chunk f.after p.before p.chunk p.after (sym f.chunks ∙ p.chunks)) [
             | in_front k ↦ elim (run_apart (f.before ++ r.one.chunk ∷ []) r.run r.rest p.before p.chunk p.after (sym e ∙ p.chunks) (all_free_loose r.run r.all_free) p.is.one) [
               | inl j ↦ absurd (omega (arith, j, k, t, p.is.fits))
@@ -44,7 +44,7 @@ pub dropped_within : {m : Memory} {at room size slot : ℕ} → HoldsHeap m → 
 dropped_within {m} {at} {room} {size} {slot} h d =
     let pair : List Chunk = free room ∷ movable d.bytes 0 d.owner slot ∷ [] in
     let sizes : total pair ≡ room + size = omega (arith, d.takes) in
-    subst (λ (n : ℕ). IsWithin m (at - room) n) sizes (run_within m _ pair _ _ h.accepted h.lent d.chunks (omega (arith, d.there)) tt)
+    subst (λ n. IsWithin m (at - room) n) sizes (run_within m _ pair _ _ h.accepted h.lent d.chunks (omega (arith, d.there)) tt)
 
 pub dropped_holds : {old new : Memory} {at room size slot : ℕ} → HoldsHeap old → new.lents ≡ old.lents → IsDroppable old.bytes at room size slot → MovesDown old.bytes new.bytes at room size slot → HoldsHeap new
 dropped_holds {old} {new} {room} {slot} h same d moves =
@@ -70,7 +70,7 @@ packed_total room (fixed bytes owner) = refl
 
 pub packed_holds : {old new : Memory} {at room size moved room_then : ℕ} {b : IsBehindRoom old.bytes at room} → HoldsHeap old → new.lents ≡ old.lents → PackedOne b new.bytes size moved room_then → HoldsHeap new
 packed_holds {old} {new} {room} {b} h same p =
-    let chunks = b.chunks ∙ ap (λ (cs : List Chunk). b.before ++ cs) (sym (append_assoc (gap room) (b.chunk ∷ []) b.after)) in
+    let chunks = b.chunks ∙ ap (λ cs. b.before ++ cs) (sym (append_assoc (gap room) (b.chunk ∷ []) b.after)) in
     let x = p.becomes in
     record {
       accepted = x.frame.accepted;

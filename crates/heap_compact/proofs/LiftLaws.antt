@@ -211,4 +211,4 @@ module _ {gap : ℕ} {u : Lift gap} {image : List ℕ} {moved : List Chunk} {at 
 pub lifted_room : {old new : List ℕ} {start end gap : ℕ} → HasFreeBehind old start end gap → Lifts old new start end gap → IsFreeChunk new start gap
 lifted_room f lifts =
     let b = lifts f in
-    record { before = f.before; after = f.mid ++ f.after; chunks = b.exact; there = f.from ∙ ap (λ (n : ℕ). n + total f.before) (sym (exactly_start b)) }
+    record { before = f.before; after = f.mid ++ f.after; chunks = b.exact; there = f.from ∙ ap (λ n. n + total f.before) (sym (exactly_start b)) }

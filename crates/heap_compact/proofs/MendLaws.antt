@@ -40,7 +40,7 @@ pub record NextOf {gap : ℕ} (u : Lift gap) (image : List ℕ) (done : List Chu
 -- the tiles, with a chunk among those that are mended
 grown_tiles : {image : List ℕ} (before done : List Chunk) (c : Chunk) (others : List Chunk) (gap : ℕ) → Tiles image ((before ++ free gap ∷ done) ++ c ∷ others) → Tiles image (before ++ free gap ∷ ((done ++ c ∷ []) ++ others))
 grown_tiles {image} before done c others gap t =
-    subst (λ (cs : List Chunk). Tiles image (before ++ free gap ∷ cs)) (sym (append_assoc done _ others)) (rw (append_assoc before (free gap ∷ done) (c ∷ others)) at t)
+    subst (λ cs. Tiles image (before ++ free gap ∷ cs)) (sym (append_assoc done _ others)) (rw (append_assoc before (free gap ∷ done) (c ∷ others)) at t)
 
 module _ {gap : ℕ} {u : Lift gap} {image : List ℕ} {done : List Chunk} {c : Chunk} {rest : List Chunk} {at : ℕ} (l : Lifting u image done (c ∷ rest) at) where
   abbrev others : List Chunk
@@ -253,7 +253,7 @@ mends {gap} {u} {image} {done} (movable bytes k v slot) {rest} {at} {size} {name
         is_slot = m.is_slot;
         table = λ mid mid_is. mended_table l mid_is;
       };
-      step = λ mid new. subst (λ (n : ℕ). mid ≡ with_slot_at image at n → Reslots image mid at n → new ≡ overwritten mid n (u32_bytes (at + 8)) → Lifting u new (done ++ movable bytes k v slot ∷ []) rest (at + size)) (sym back)
+      step = λ mid new. subst (λ n. mid ≡ with_slot_at image at n → Reslots image mid at n → new ≡ overwritten mid n (u32_bytes (at + 8)) → Lifting u new (done ++ movable bytes k v slot ∷ []) rest (at + size)) (sym back)
           (λ mid_is reslots new_is. rw takes at (step_mended l mid_is reslots new_is));
     }
 
@@ -261,10 +261,10 @@ pub stepped_kept : {gap : ℕ} {u : Lift gap} {image : List ℕ} {done : List Ch
     → Lifting u image (done ++ c ∷ []) rest (at + size)
 stepped_kept {u} {image} {done} (free more) {rest} {at} l found size_is not_movable =
     let e = header_there (free more) (next_of l).spelled found in
-    subst (λ (k : ℕ). Lifting u image (done ++ free more ∷ []) rest (at + k)) (sym (size_is ∙ ap size_by e)) (step_kept l refl (λ slot place n b. b))
+    subst (λ k. Lifting u image (done ++ free more ∷ []) rest (at + k)) (sym (size_is ∙ ap size_by e)) (step_kept l refl (λ slot place n b. b))
 stepped_kept {u} {image} {done} (fixed bytes v) {rest} {at} l found size_is not_movable =
     let e = header_there (fixed bytes v) (next_of l).spelled found in
-    subst (λ (k : ℕ). Lifting u image (done ++ fixed bytes v ∷ []) rest (at + k)) (sym (size_is ∙ ap size_by e)) (step_kept l refl (λ slot place n b. b))
+    subst (λ k. Lifting u image (done ++ fixed bytes v ∷ []) rest (at + k)) (sym (size_is ∙ ap size_by e)) (step_kept l refl (λ slot place n b. b))
 stepped_kept {gap} (movable bytes k v slot) l found size_is not_movable =
     let e = header_there (carried gap (movable bytes k v slot)) (next_of l).spelled found in
     absurd (not_movable (length bytes) k v ((slot + gap) % 2 ^ 25) e)

@@ -23,7 +23,7 @@ moved_none size none = ap (λ (k : ℕ). cond {A = ℕ} (k == 0) 0 size) none
 
 loose_named : (c : Chunk) {slot : ℕ} → (HeaderStays (header_of c) → ⊥) → slot_by (header_of c) ≡ Some slot → (bytes : List ℕ) × (owner : ℕ) × (c ≡ movable bytes 0 owner slot)
 loose_named (free n) goes e = absurd cc
-loose_named (movable bytes zero owner named) {slot} goes e = let same : named ≡ slot = cc in (bytes, owner, ap (λ (n : ℕ). movable bytes 0 owner n) same)
+loose_named (movable bytes zero owner named) {slot} goes e = let same : named ≡ slot = cc in (bytes, owner, ap (λ n. movable bytes 0 owner n) same)
 loose_named (movable bytes (suc count) owner named) goes e = absurd (goes (omega arith))
 loose_named (fixed bytes owner) goes e = absurd (goes tt)
 
@@ -40,7 +40,7 @@ slot_there (headers.Fixed length owner) isnt goes = absurd (goes tt)
 
 staying_one : (c : Chunk) {header : Header} → header ≡ header_of c → HeaderStays header → (room : ℕ) → (packed_one room c ≡ gap room ++ c ∷ []) × ((moved_one room c ≡ 0) × (room_after room c ≡ 0))
 staying_one (free n) e stay room = absurd (subst HeaderStays e stay)
-staying_one (movable bytes zero owner slot) e stay room = let k : 0 < 0 = subst HeaderStays e stay in absurd (omega (arith, k))
+staying_one (movable bytes zero owner slot) e stay room = let k = subst HeaderStays e stay in absurd (omega (arith, k))
 staying_one (movable bytes (suc count) owner slot) e stay room = (refl, (refl, refl))
 staying_one (fixed bytes owner) e stay room = (refl, (refl, refl))
 
@@ -48,7 +48,7 @@ staying_one (fixed bytes owner) e stay room = (refl, (refl, refl))
 
 -- it is packed, once its kind is known
 packed_as : {old new : List ℕ} {at room : ℕ} (b : IsBehindRoom old at room) (c : Chunk) {size moved room_then : ℕ} → b.chunk ≡ c → BecomesExactly old new (b.before ++ (packed_one room c ++ b.after)) → size ≡ size_of c → moved ≡ moved_one room c → room_then ≡ room_after room c → PackedOne b new size moved room_then
-packed_as {old} {new} {room} b c e becomes size_is moved_is room_is = record {
+packed_as {room} b c e becomes size_is moved_is room_is = record {
   becomes = rw (← e) at becomes;
   size_is = size_is ∙ ap size_of (sym e);
   moved_is = moved_is ∙ ap (moved_one room) (sym e);
@@ -152,7 +152,7 @@ pub room_in_front : {image : List ℕ} {at room : ℕ} → IsBehindRoom image at
 room_in_front {room} b =
     let there = b.there in (
       omega (arith, there),
-      λ some. record { before = b.before; after = _ ∷ b.after; chunks = b.chunks ∙ ap (λ (g : List Chunk). b.before ++ (g ++ b.chunk ∷ b.after)) (gap_some room some); there = omega (arith, there) },
+      λ some. record { before = b.before; after = _ ∷ b.after; chunks = b.chunks ∙ ap (λ g. b.before ++ (g ++ b.chunk ∷ b.after)) (gap_some room some); there = omega (arith, there) },
     )
 
 -- and then links were written
@@ -343,7 +343,7 @@ run_whole {old} h from to =
 
 pub compacted : {old new : List ℕ} {start end : ℕ} → HeapAccepted old → start ≡ area_start old → end ≡ length old → Packs old new start end → BecomesExactly old new (packed (chunks_of old))
 compacted {old} {new} h from to p =
-    subst (λ (cs : List Chunk). BecomesExactly old new cs) (append-nil (packed (chunks_of old))) (p (run_whole h from to))
+    subst (λ cs. BecomesExactly old new cs) (append-nil (packed (chunks_of old))) (p (run_whole h from to))
 
 -- the header after room misses what is lent
 pub behind_misses : {m : Memory} {at room : ℕ} → HoldsHeap m → IsBehindRoom m.bytes at room → Misses m.lents at 8
@@ -359,6 +359,6 @@ pub join_misses : {m : Memory} {at room n : ℕ} → HoldsHeap m → IsBehindRoo
 join_misses {m} {at} {room} {n} h b found =
     let least : 8 ≤ n = (joins h.accepted b found refl).is_free.header_fits in
     let t = total-append (gap room) (free n ∷ []) in
-    let e = with_chunk h.accepted b (free n) (is_free h.accepted b found refl) ∙ ap (λ (cs : List Chunk). b.before ++ cs) (sym (append_assoc (gap room) (free n ∷ []) b.after)) in
+    let e = with_chunk h.accepted b (free n) (is_free h.accepted b found refl) ∙ ap (λ cs. b.before ++ cs) (sym (append_assoc (gap room) (free n ∷ []) b.after)) in
     let lent = loose_misses m b.before (gap room ++ free n ∷ []) b.after (at - room) h.lent e (omega (arith, b.there)) (gap_loose room n) in
     part_misses m.lents (at - room) (total (gap room ++ free n ∷ [])) (at - room) 8 lent (omega arith) (omega (arith, t, least))

@@ -33,7 +33,6 @@ found_held image found live h is there count lock owner =
 
 pub one_placed : (image : List ℕ) (found : Found) → HeapAccepted image → IsOne image found → place_of image found.name.0 ≡ Some found.place.0
 one_placed image found h f =
-    let low = f.behind_header in
     let there : found.place.0 - 8 + 8 ≡ found.place.0 = omega arith in
     finds_place _ _ _ _ _ h f.finds ∙ ap some_place there where
       some_place : ℕ → Option ℕ
@@ -52,11 +51,10 @@ zeros_live count = fixed_live (replicate count 0) 1
 pub stand_changes : {old : List ℕ} (new : List ℕ) {at size : ℕ} (count : ℕ) → HeapAccepted old → IsSpot old at size → need count ≤ size → Claims old new at size (fixed (replicate count 0) 1) → ChangesName old new (fixed_name at) (Some (zeros_live count)) (Some (at + 8))
 stand_changes new {at} count h r fits x =
     let many : length (replicate {A = ℕ} count 0) ≡ count = length-replicate count 0 in
-    let takes : need (length (replicate {A = ℕ} count 0)) ≡ need count = ap need many in
     claims_change _ _ _ _ _ _ _ h (omega arith) r (spot_unheld _ _ _ h (omega arith) r) x (omega arith) (fixed_has_name at _ 1 (omega arith))
 
 pub stands_there : {old : List ℕ} (new : List ℕ) {at size : ℕ} (count : ℕ) → HeapAccepted old → IsSpot old at size → need count ≤ size → Claims old new at size (fixed (replicate count 0) 1) → IsOne new (stand_in at count)
-stands_there new {at} count h r fits x =
+stands_there new count h r fits x =
     let ch = stand_changes _ count h r fits x in
     found_held _ _ _ ch.frame.accepted ch.here ch.place (sym (length-replicate count 0)) refl refl
 
@@ -97,7 +95,7 @@ named_write {old} {mid} {new} {at} {name} {live} {bytes} {holder} {owner} {slot}
     let all = wrote_wider _ _ _ _ at (at + (need (length bytes) + 0)) first (omega arith) (omega arith) in
     let area : WroteArea old new at (at + (need (length bytes) + 0)) = record { mid = mid; slot = slot; area = all; word = word; is_slot = inr s; there = omega arith; fits = omega arith } in
     let replaces = area_replaces _ _ f.before (c ∷ []) (d ∷ []) f.after _ heap.tiles none f.there m.inside area (spelled, omega arith) in
-    let holds : u32_at new slot ≡ at + 8 = ap (λ (x : List ℕ). u32_at x slot) new_is ∙ u32_at-written (at + 8) slot mid (omega arith) (omega arith) in
+    let holds = ap (λ x. u32_at x slot) new_is ∙ u32_at-written (at + 8) slot mid (omega arith) (omega arith) in
     let others : OtherSlots old new slot = record { same = λ t ts ne. area_slots _ _ f.before (c ∷ []) f.after _ _ heap.tiles none f.there area ts (λ e. ne (sym e)) } in
     let done = claimed _ _ _ _ _ _ _ _ _ tt heap replaces s empty holds others in (
       becomes_heap _ _ _ replaces.head done,
@@ -123,10 +121,9 @@ named_there {old} {mid} {new} there {owner} {slot} h one is_fixed s empty mid_is
           let e : lock ≡ live.lock = ap (λ (x : LiveChunk). x.lock) f.named.1 in
           absurd (omega (arith, is_fixed, lock_is))
       by_chunk live (fixed bytes holder) f count lock_is =
-          let same : there.length ≡ length bytes = count ∙ ap (λ (x : LiveChunk). length x.bytes) (sym (fixed_live_is at _ _ f.named)) in
-          let low = one.behind_header in
+          let same = count ∙ ap (λ x. length x.bytes) (sym (fixed_live_is at _ _ f.named)) in
           let body : there.place.0 ≡ at + 8 = omega arith in
-          named_write h f s empty (mid_is ∙ ap (λ (n : ℕ). overwritten old at (live_words n 0 owner (h_offset_to at slot))) same)
+          named_write h f s empty (mid_is ∙ ap (λ n. overwritten old at (live_words n 0 owner (h_offset_to at slot))) same)
           (rw same at header) (new_is ∙ ap (λ (n : ℕ). overwritten mid slot (u32_bytes n)) body)
 
 -- its header and the slot can be written
@@ -135,7 +132,6 @@ named_writable there h one s =
     let inside = found_inside _ there h one in
     let m = middle_of _ one.finds.before (one.chunk ∷ []) one.finds.after _ (heap_in_parts _ _ h one.finds.chunks) one.finds.there in
     let whole = m.start_whole in
-    let most = m.most in
     let facts = slot_facts _ _ _ h.1.tiles s in
     let slot_inside = facts.inside in let four = facts.whole in
     (omega arith, omega arith, omega arith)
@@ -156,18 +152,17 @@ header_table {old} {mid} there owner {slot} h one s mid_is =
 
 found_bytes : {image : List ℕ} (found : Found) → HeapAccepted image → (f : IsOne image found) → slice_range image found.place.0 (found.place.0 + found.length) ≡ f.live.bytes
 found_bytes {image} found h f =
-    let low = f.behind_header in
     let body : found.place.0 - 8 + 8 ≡ found.place.0 = omega arith in
-    ap (λ (n : ℕ). slice_range image found.place.0 (found.place.0 + n)) f.count ∙ ap (λ (n : ℕ). slice_range image n (n + length f.live.bytes)) (sym body) ∙ (finds_body _ _ _ _ _ h f.finds).bytes
+    ap (λ n. slice_range image found.place.0 (found.place.0 + n)) f.count ∙ ap (λ n. slice_range image n (n + length f.live.bytes)) (sym body) ∙ (finds_body _ _ _ _ _ h f.finds).bytes
 
 -- the first of them
 first_bytes : (image : List ℕ) {bytes : List ℕ} (at : ℕ) {all n : ℕ} (most : ℕ) → slice_range image at (at + all) ≡ bytes → length bytes ≡ all → n ≡ min all most → slice_range image at (at + n) ≡ take most bytes
 first_bytes image {bytes} at {all} {n} most e len is =
     let some : at + n - at ≡ n = omega arith in
     let whole : at + all - at ≡ all = omega arith in
-    let read : take all (drop at image) ≡ bytes = ap (λ (k : ℕ). take k (drop at image)) (sym whole) ∙ e in
+    let read = ap (λ k. take k (drop at image)) (sym whole) ∙ e in
     let fewer : n ≤ all = omega arith in
-    ap (λ (k : ℕ). take k (drop at image)) some ∙ sym (take-take n all _ fewer) ∙ ap (take n) read ∙ elim (cases_lt most all) [
+    ap (λ k. take k (drop at image)) some ∙ sym (take-take n all _ fewer) ∙ ap (take n) read ∙ elim (cases_lt most all) [
       | inl less ↦ ap (λ (k : ℕ). take k bytes) (omega arith)
       | inr more ↦ take_all n bytes (omega arith) ∙ sym (take_all most bytes (omega arith))
     ]
@@ -194,7 +189,7 @@ copied_there {old} {new} from to h f one is new_is =
     let first = first_bytes old from.place.0 to.length (found_bytes from h f) (sym f.count) is in
     let few : length part ≤ to.length = taken_fits to.length f.live.bytes in
     let start : to.place.0 ≡ to.place.0 + 0 = omega arith in
-    let whole = new_is ∙ ap (overwritten old to.place.0) first ∙ ap (λ (k : ℕ). overwritten old k part) start in
+    let whole = new_is ∙ ap (overwritten old to.place.0) first ∙ ap (λ k. overwritten old k part) start in
     let there = written_there _ _ to 0 part h one (omega (arith, few)) whole in
     let ch = copy_changes new to part h one few there.0 in
     record {
@@ -248,15 +243,15 @@ relocated_found {s0} s1 s2 s3 s4 found {there} {at} {size} count h f unlocked r 
       let d : Chunk = movable (sized_to bytes count) lock owner slot in
       let many : length (replicate {A = ℕ} count 0) ≡ count = length-replicate count 0 in
       let sized : length (sized_to bytes count) ≡ count = length-sized_to bytes count in
-      let bytes_are : again.live.bytes ≡ bytes = ap (λ (x : LiveChunk). x.bytes) (part_is ∙ sym g.named.1) in
-      let padded_are : overwritten zeros 0 part ≡ sized_to bytes count = ap (λ (x : List ℕ). overwritten zeros 0 (take count x)) bytes_are ∙ padded _ _ in
-      let lock_zero : 0 ≡ lock = sym unlocked ∙ f.lock_is ∙ ap (λ (x : LiveChunk). x.lock) (sym g.named.1) in
-      let owner_same : found.owner ≡ owner = f.owner_is ∙ ap (λ (x : LiveChunk). x.owner) (sym g.named.1) in
+      let bytes_are = ap (λ x. x.bytes) (part_is ∙ sym g.named.1) in
+      let padded_are = ap (λ x. overwritten zeros 0 (take count x)) bytes_are ∙ padded _ _ in
+      let lock_zero = sym unlocked ∙ f.lock_is ∙ ap (λ x. x.lock) (sym g.named.1) in
+      let owner_same = f.owner_is ∙ ap (λ x. x.owner) (sym g.named.1) in
       let d_takes : size_of d ≡ need count = ap need sized in
       let f_takes : size_of (fixed zeros 1) ≡ need count = ap need many in
-      let e_takes : size_of (fixed (overwritten zeros 0 part) 1) ≡ need count = ap (λ (x : List ℕ). need (length x)) padded_are ∙ d_takes in
+      let e_takes = ap (λ x. need (length x)) padded_are ∙ d_takes in
       relocates _ _ s2 s3 s4 _ _ _ _ _ lock _ slot _ _ _ _ _ _ h g.chunks g.there (omega arith) (omega arith) tt tt (f_takes ∙ sym d_takes) (e_takes ∙ sym d_takes) refl
-      (ap (λ (x : List ℕ). movable x 0 found.owner found.name.0) padded_are ∙ ap (λ (n : ℕ). movable (sized_to bytes count) n found.owner found.name.0) lock_zero ∙ ap (λ (n : ℕ). movable (sized_to bytes count) lock n found.name.0) owner_same ∙ ap (λ (n : ℕ). movable (sized_to bytes count) lock owner n) (sym g.named.0))
+      (ap (λ x. movable x 0 found.owner found.name.0) padded_are ∙ ap (λ n. movable (sized_to bytes count) n found.owner found.name.0) lock_zero ∙ ap (λ n. movable (sized_to bytes count) lock n found.name.0) owner_same ∙ ap (λ n. movable (sized_to bytes count) lock owner n) (sym g.named.0))
       made (rw place at (rw taken at (copied again))) gone (rw place at named)
 
 -- once the chunk is free its slot is empty, and the stand-in is still there

@@ -17,16 +17,16 @@ pub loose_there : {image : List ℕ} {name : ℕ} → IsLoose image name → IsS
 loose_there l = subst (λ (x : Option LiveChunk). IsSome x) (sym l.is_held) refl
 
 pub loose_lock : {image : List ℕ} {name : ℕ} {found : Found} → HeapAccepted image → IsLoose image name → IsFound image name found → found.lock ≡ 0
-loose_lock h l f = f.lock_is ∙ ap (λ (x : LiveChunk). x.lock) (same_live (sym (name_held _ _ _ h f) ∙ l.is_held)) ∙ l.unlocked
+loose_lock h l f = f.lock_is ∙ ap (λ x. x.lock) (same_live (sym (name_held _ _ _ h f) ∙ l.is_held)) ∙ l.unlocked
 
 -- ---- one name has changed
 
 pub changed_resized : {old new : List ℕ} {name : ℕ} (count : ℕ) (live : LiveChunk) {there : Option ℕ} → held old name ≡ Some live → live.lock ≡ 0 → ChangesName old new name (Some (live_sized count live)) there → Resized old new name count
 changed_resized {old} {name} count live e unlocked ch = record {
   frame = ch.frame;
-  map = λ other. held_updated _ _ _ _ _ ch other ∙ ap (λ (x : Option LiveChunk). if other == name then x else held old other) (ap (changed (λ (x : LiveChunk). record x { bytes = sized_to x.bytes count })) (sym e));
+  map = λ other. held_updated _ _ _ _ _ ch other ∙ ap (λ x. if other == name then x else held old other) (ap (changed (λ x. record x { bytes = sized_to x.bytes count })) (sym e));
   still = λ n other is locked some. elim (cases_eq n name) [
-    | inl same ↦ let lock : other.lock ≡ 0 = ap (λ (x : LiveChunk). x.lock) (same_live (sym is ∙ ap (held old) same ∙ e)) ∙ unlocked in absurd (omega arith)
+    | inl same ↦ let lock = ap (λ x. x.lock) (same_live (sym is ∙ ap (held old) same ∙ e)) ∙ unlocked in absurd (omega arith)
     | inr apart ↦ ch.places n apart
   ];
 }
@@ -69,7 +69,7 @@ moved_resized new found count true h f unlocked has none moved = run_resized h f
 moved_resized new found count false h f unlocked has none moved = absurd (has none)
 
 pub run_not_short : {old new : List ℕ} {found : Found} {count : ℕ} → RelocatesToRun old new found count → ShortFor old found.name.0 (need count) → ⊥
-run_not_short {found} {count} r = spot_not_short_for _ _ _ _ _ (omega arith) r.room r.enough
+run_not_short r = spot_not_short_for _ _ _ _ _ (omega arith) r.room r.enough
 
 -- ---- a stretch has slid before
 
@@ -82,8 +82,8 @@ slid_then {old} {mid} new name count h s r =
     record {
       frame = frame_then _ _ _ s.becomes.frame r.frame;
       map = λ other. r.map other
-          ∙ ap (λ (x : Option LiveChunk). if other == name then changed (λ (y : LiveChunk). record y { bytes = sized_to y.bytes count }) x else held mid other) (alike.holds name)
-          ∙ ap (λ (x : Option LiveChunk). if other == name then changed (λ (y : LiveChunk). record y { bytes = sized_to y.bytes count }) (held old name) else x) (alike.holds other);
+          ∙ ap (λ x. if other == name then changed (λ y. record y { bytes = sized_to y.bytes count }) x else held mid other) (alike.holds name)
+          ∙ ap (λ x. if other == name then changed (λ y. record y { bytes = sized_to y.bytes count }) (held old name) else x) (alike.holds other);
       still = λ n live e locked is. r.still n live (alike.holds n ∙ e) locked is ∙ alike.stays n live e locked (some_held (held mid n) live (alike.holds n ∙ e));
     } where
       some_held : (x : Option LiveChunk) (live : LiveChunk) → x ≡ Some live → IsSome x
@@ -108,7 +108,7 @@ slid_alone {mid} new name h s alone =
 -- ---- in its own stretch
 
 pub opens_slides : {old : List ℕ} (new : List ℕ) {found : Found} {size : ℕ} → FitsInStretch old found size → OpensBehind old new (found.place.0 - 8) → SlidesOneStretch old new
-opens_slides {old} new {found} k o = opens_one _ new _ _ _ _ _ _ _ _ k.whole k.there o
+opens_slides new k o = opens_one _ new _ _ _ _ _ _ _ _ k.whole k.there o
 
 -- once room is opened after the chunk it fits there
 pub fits_opened : {old : List ℕ} (new : List ℕ) {found : Found} {size : ℕ} → HeapAccepted old → IsOne old found → (k : FitsInStretch old found size) → OpensBehind old new (found.place.0 - 8) → FitsInPlace new found.name.0 size
@@ -116,7 +116,7 @@ fits_opened new {found} h f k o live e =
     let alike = slides_alike _ _ h (opens_slides new k o) in
     let behind = opened_behind _ new _ _ k.front k.bytes k.owner found.name.0 k.back _ h k.whole k.there o in
     let same : live ≡ f.live = same_live (sym e ∙ alike.holds found.name.0 ∙ one_held _ _ h f) in
-    let many : need (length live.bytes) ≡ need (length k.bytes) = ap (λ (x : LiveChunk). need (length x.bytes)) same ∙ ap need (sym f.count ∙ k.many) in
+    let many = ap (λ x. need (length x.bytes)) same ∙ ap need (sym f.count ∙ k.many) in
     omega (arith, k.enough)
 
 -- the stretch that was found around it, with its room
@@ -133,7 +133,7 @@ fits_in_stretch found size a r enough =
     record { before = a.before; front = a.front; bytes = a.bytes; owner = a.owner; back = a.back; after = _; whole = a.is.whole; there = a.there; many = a.many; enough = omega arith }
 
 pub fits_not_short : {image : List ℕ} {found : Found} {size : ℕ} → HeapAccepted image → FitsInStretch image found size → ShortFor image found.name.0 size → ⊥
-fits_not_short {found} {size} h k short =
+fits_not_short {size} h k short =
     let low = ((short_for_parts _ _ _ _ _ _ _ _ size h k.whole).0 short).1 in
     let enough = k.enough in
     omega arith
@@ -142,7 +142,6 @@ fits_not_short {found} {size} h k short =
 pub short_own : {image : List ℕ} (found : Found) {stretch : Stretch} {room : ℕ} (size : ℕ) → HeapAccepted image → IsFoundAmong image found stretch → HasRoomOf image stretch room → need found.length + room < size → ShortFor image found.name.0 size ↔ Short image size
 short_own found size h a r low =
     let is = room_among_own found a r in
-    let many : need found.length ≡ need (length a.bytes) = ap need a.many in
     let parts = short_for_parts _ _ _ _ _ _ _ _ size h a.is.whole in
     (λ s. (parts.0 s).0, λ s. parts.1 (s, omega arith))
 
@@ -150,10 +149,10 @@ short_own found size h a r low =
 
 pub resized_here : {old : List ℕ} (new : List ℕ) {name : ℕ} (count : ℕ) {found : Found} → IsFound old name found → ChangedAlone old new found.name.0 count → Resized old new name count × MovesAlone old new name
 unfolding ChangedAlone
-resized_here {old} new count f r = rw f.name_is at r
+resized_here new count f r = rw f.name_is at r
 
 pub resized_named : {old : List ℕ} (new : List ℕ) {name : ℕ} (count : ℕ) {found : Found} → IsFound old name found → (IsOne old found → FitsInPlace old found.name.0 (need count) → ChangedAlone old new found.name.0 count) → FitsInPlace old name (need count) → Resized old new name count × MovesAlone old new name
-resized_named {old} new count f done fits = resized_here new count f (done (one_of f) (rw (← f.name_is) at fits))
+resized_named new count f done fits = resized_here new count f (done (one_of f) (rw (← f.name_is) at fits))
 
 -- ---- what is taken and free fits into a region
 

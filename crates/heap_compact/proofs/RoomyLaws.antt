@@ -15,10 +15,10 @@ short_run size (c ∷ run) low = All-cons (λ room. room < size) (room_of (c ∷
 short_behind : (size : ℕ) (closed run after : List Chunk) (runs : List (List Chunk)) → EndsStaying closed → NoneStays run → runs_between after ≡ [] ∷ runs → filter has_chunk runs ≡ [] → All (λ room. room < size) (rooms_of (stretches closed)) → room_of run < size
     → All (λ room. room < size) (rooms_of (stretches (closed ++ (run ++ after))))
 short_behind size closed run after runs ends none begins empty short low =
-    let one : stretches (run ++ after) ≡ filter has_chunk (run ∷ []) = ap (filter has_chunk) (run_then run after runs none begins) ∙ with_none run in
+    let one = ap (filter has_chunk) (run_then run after runs none begins) ∙ with_none run in
     let all : rooms_of (stretches (closed ++ (run ++ after))) ≡ rooms_of (stretches closed) ++ rooms_of (filter has_chunk (run ∷ [])) =
     ap rooms_of (stretches_behind closed (run ++ after) ends) ∙ rooms_of-append (stretches closed) (stretches (run ++ after)) ∙ ap (λ (others : List (List Chunk)). rooms_of (stretches closed) ++ rooms_of others) one in
-    subst (λ (rooms : List ℕ). All (λ room. room < size) rooms) (sym all) (All-append (λ room. room < size) (rooms_of (stretches closed)) (rooms_of (filter has_chunk (run ∷ []))) short (short_run size run low)) where
+    subst (λ rooms. All (λ room. room < size) rooms) (sym all) (All-append (λ room. room < size) (rooms_of (stretches closed)) (rooms_of (filter has_chunk (run ∷ []))) short (short_run size run low)) where
       with_none : (first : List Chunk) → filter has_chunk (first ∷ runs) ≡ filter has_chunk (first ∷ [])
       with_none [] = empty
       with_none (c ∷ first) = ap (λ (others : List (List Chunk)). (c ∷ first) ∷ others) empty

@@ -15,11 +15,11 @@ unlocked image found f none = of_chunk f.chunk f.finds.named f.finds.chunks wher
         bytes = bytes;
         owner = owner;
         after = f.finds.after;
-        chunks = chunks ∙ ap (λ (n : ℕ). f.finds.before ++ movable bytes n owner slot ∷ f.finds.after) lock_is ∙ ap (λ (n : ℕ). f.finds.before ++ movable bytes 0 owner n ∷ f.finds.after) named.0;
+        chunks = chunks ∙ ap (λ n. f.finds.before ++ movable bytes n owner slot ∷ f.finds.after) lock_is ∙ ap (λ n. f.finds.before ++ movable bytes 0 owner n ∷ f.finds.after) named.0;
         there = f.finds.there;
         many = f.count ∙ sym (ap (λ (x : LiveChunk). length x.bytes) named.1);
       }
-  of_chunk _ named chunks = let lock_is : 15 ≡ 0 = ap (λ (x : LiveChunk). x.lock) (fixed_live_is _ _ _ named) ∙ sym f.lock_is ∙ none in absurd (omega (arith, lock_is))
+  of_chunk _ named chunks = let lock_is = ap (λ x. x.lock) (fixed_live_is _ _ _ named) ∙ sym f.lock_is ∙ none in absurd (omega (arith, lock_is))
 
 -- ---- chunks that stay
 
@@ -107,7 +107,7 @@ seen_closed image at later start here size header s f e stay low =
 
 found_back : (image : List ℕ) (at here : ℕ) (v : Chunk) {run : List Chunk} (front rest : List Chunk) → run ≡ front ++ rest → SpelledAll image at rest here → Spelled image at v → at < here → (back : List Chunk) × (run ≡ front ++ v ∷ back)
 found_back image at here v front [] e s p low = absurd (omega (arith, s, low))
-found_back image at here v front (d ∷ rest) e s p low = (rest, e ∙ ap (λ (x : Chunk). front ++ x ∷ rest) (Spelled-unique _ at d v s.0 p))
+found_back image at here v front (d ∷ rest) e s p low = (rest, e ∙ ap (λ x. front ++ x ∷ rest) (Spelled-unique _ at d v s.0 p))
 
 pub begins_there : (image : List ℕ) (here : ℕ) (c : Chunk) (after : List Chunk) → SpelledAll image here after (length image) → Spelled image here c → IsTrue (stays_put c) → BeginsStaying after
 begins_there image here c [] s p stay = tt

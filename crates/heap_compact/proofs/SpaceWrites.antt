@@ -58,9 +58,9 @@ module _ {old region : Memory} {heads : List ℕ} {known : Remembered} {found : 
 -- the room is taken from its lists, the chunk is put there, and all lists are built
 pub room_claimed : {old region : Memory} {taken mid new : List ℕ} {at room size : ℕ} (count : ℕ) (chunk : Chunk) → region ≡ old → size ≡ need count → size_of chunk ≡ need count
     → Becomes region.bytes taken (chunks_of region.bytes) → CutsRoom region.bytes taken at room size → Fills taken mid at (need count) chunk → Becomes mid new (chunks_of mid) → Claims old.bytes new at room chunk
-room_claimed {region} {taken} {new} {at} {room} count chunk view e is same cut fills built =
+room_claimed {new} {at} {room} count chunk view e is same cut fills built =
     let makes = cut_claims _ _ _ _ room _ _ is same (rw e at cut) fills in
-    subst (λ (m : Memory). Claims m.bytes new at room chunk) view (claims_same _ _ _ _ _ _ makes built)
+    subst (λ m. Claims m.bytes new at room chunk) view (claims_same _ _ _ _ _ _ makes built)
 
 -- ---- bytes at equal distances are changed
 

@@ -42,7 +42,7 @@ stay_live (fixed bytes owner) stay = tt
 
 end_split : (c : Chunk) (cs : List Chunk) → EndsStaying (c ∷ cs) → (front : List Chunk) × (last : Chunk) × (c ∷ cs ≡ front ++ last ∷ []) × IsNotFree last
 end_split c [] stay = ([], c, refl, stay_live c stay)
-end_split c (d ∷ cs) stay = let e = end_split d cs stay in (c ∷ e.0, e.1, ap (λ (xs : List Chunk). c ∷ xs) e.2, e.3)
+end_split c (d ∷ cs) stay = let e = end_split d cs stay in (c ∷ e.0, e.1, ap (λ xs. c ∷ xs) e.2, e.3)
 
 staying_keeps : (cs : List Chunk) → EndsStaying cs → KeepsApart cs
 staying_keeps [] stay = λ others. refl
@@ -61,7 +61,7 @@ pub packed_end : {old new : List ℕ} {before mid after : List Chunk} {stretch :
 packed_end {new} {before} {mid} {after} {room} s b is =
     let front : List Chunk = before ++ lives mid in
     let parts : chunks_of new ≡ front ++ (gap room ++ after) =
-    b.exact ∙ ap (λ (cs : List Chunk). before ++ (cs ++ after)) (stretch_packed mid s.whole.none_stays ∙ ap (λ (n : ℕ). lives mid ++ gap n) (sym is)) ∙ ap (λ (cs : List Chunk). before ++ cs) (append_assoc (lives mid) (gap room) after)
+    b.exact ∙ ap (λ cs. before ++ (cs ++ after)) (stretch_packed mid s.whole.none_stays ∙ ap (λ n. lives mid ++ gap n) (sym is)) ∙ ap (λ cs. before ++ cs) (append_assoc (lives mid) (gap room) after)
     ∙ sym (append_assoc before (lives mid) (gap room ++ after)) in
     let both = total-append before (lives mid) in
     record {
@@ -79,16 +79,16 @@ packed_end {new} {before} {mid} {after} {room} s b is =
 
 pub regroup : (before xs ys after : List Chunk) (v f : Chunk) → before ++ (((xs ++ v ∷ ys) ++ f ∷ []) ++ after) ≡ (before ++ (xs ++ v ∷ [])) ++ (ys ++ f ∷ after)
 regroup before xs ys after v f =
-    ap (λ (cs : List Chunk). before ++ cs) (append_assoc (xs ++ v ∷ ys) (f ∷ []) after ∙ append_assoc xs (v ∷ ys) (f ∷ after) ∙ sym (append_assoc xs (v ∷ []) (ys ++ f ∷ after)))
+    ap (λ cs. before ++ cs) (append_assoc (xs ++ v ∷ ys) (f ∷ []) after ∙ append_assoc xs (v ∷ ys) (f ∷ after) ∙ sym (append_assoc xs (v ∷ []) (ys ++ f ∷ after)))
     ∙ sym (append_assoc before (xs ++ v ∷ []) (ys ++ f ∷ after))
 
 regroup_open : (before xs ys after : List Chunk) (v f : Chunk) → (before ++ (xs ++ v ∷ [])) ++ f ∷ (ys ++ after) ≡ before ++ ((xs ++ v ∷ f ∷ ys) ++ after)
 regroup_open before xs ys after v f =
-    append_assoc before (xs ++ v ∷ []) (f ∷ (ys ++ after)) ∙ ap (λ (cs : List Chunk). before ++ cs) (append_assoc xs (v ∷ []) (f ∷ (ys ++ after)) ∙ sym (append_assoc xs (v ∷ f ∷ ys) after))
+    append_assoc before (xs ++ v ∷ []) (f ∷ (ys ++ after)) ∙ ap (λ cs. before ++ cs) (append_assoc xs (v ∷ []) (f ∷ (ys ++ after)) ∙ sym (append_assoc xs (v ∷ f ∷ ys) after))
 
 regroup_around : (before xs ys gaps after : List Chunk) (v : Chunk) → before ++ (((xs ++ v ∷ ys) ++ gaps) ++ after) ≡ (before ++ xs) ++ v ∷ (ys ++ (gaps ++ after))
 regroup_around before xs ys gaps after v =
-    ap (λ (cs : List Chunk). before ++ cs) (append_assoc (xs ++ v ∷ ys) gaps after ∙ append_assoc xs (v ∷ ys) (gaps ++ after)) ∙ sym (append_assoc before xs (v ∷ (ys ++ (gaps ++ after))))
+    ap (λ cs. before ++ cs) (append_assoc (xs ++ v ∷ ys) gaps after ∙ append_assoc xs (v ∷ ys) (gaps ++ after)) ∙ sym (append_assoc before xs (v ∷ (ys ++ (gaps ++ after))))
 
 opened_alike : {before front : List Chunk} (c : Chunk) (back : List Chunk) {after others fore : List Chunk} (d : Chunk) (rear : List Chunk) {later : List Chunk} → before ≡ others → front ≡ fore → c ∷ back ≡ d ∷ rear → after ≡ later → others ++ (opened fore d rear ++ later) ≡ before ++ (opened front c back ++ after)
 opened_alike c back d rear e f g k =

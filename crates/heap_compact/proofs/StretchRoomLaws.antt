@@ -19,7 +19,7 @@ record Next (image : List ℕ) (mid : List Chunk) (start at room : ℕ) : Type 0
 next_of : (image : List ℕ) {mid : List Chunk} {start at room : ℕ} → SpelledAll image start mid (start + total mid) → start + total mid ≤ length image → at < start + total mid → Summed mid start at room → Next image mid start at room
 next_of image {mid} {start} {at} {room} s inside low w = by_rest w.rest refl where
   split : (rest : List Chunk) → w.rest ≡ rest → SpelledAll image at rest (start + total mid)
-  split rest e = subst (λ (n : ℕ). SpelledAll image n rest (start + total mid)) (sym w.there) (SpelledAll-split _ _ _ rest _ (subst (λ (cs : List Chunk). SpelledAll image start cs (start + total mid)) (w.parts ∙ ap (λ (cs : List Chunk). w.front ++ cs) e) s)).1
+  split rest e = subst (λ n. SpelledAll image n rest (start + total mid)) (sym w.there) (SpelledAll-split _ _ _ rest _ (subst (λ cs. SpelledAll image start cs (start + total mid)) (w.parts ∙ ap (λ cs. w.front ++ cs) e) s)).1
 
   by_rest : (rest : List Chunk) → w.rest ≡ rest → Next image mid start at room
   by_rest [] e = absurd (let ends = split [] e in omega arith)
@@ -72,17 +72,17 @@ pub summed_misses : {m : Memory} {stretch : Stretch} {at room : ℕ} → HoldsHe
 summed_misses {m} {at} h s w low =
     let n = next_at h.accepted w low s.is in
     row_misses m s.before n.summed.front n.chunk n.later s.after at h.accepted h.lent
-    (s.is.whole.chunks ∙ ap (λ (cs : List Chunk). s.before ++ (cs ++ s.after)) (n.summed.parts ∙ ap (λ (cs : List Chunk). n.summed.front ++ cs) n.rest_is)) (omega (arith, n.summed.there, s.is.from))
+    (s.is.whole.chunks ∙ ap (λ cs. s.before ++ (cs ++ s.after)) (n.summed.parts ∙ ap (λ cs. n.summed.front ++ cs) n.rest_is)) (omega (arith, n.summed.there, s.is.from))
 
 pub summed_all : {image : List ℕ} {stretch : Stretch} {at room : ℕ} → HeapAccepted image → SumsUpTo image stretch at room → stretch.end ≤ at → HasRoomOf image stretch room
 summed_all {image} {stretch} {at} {room} h w past before mid after s =
     let k = w before mid after s in
     by_rest k k.rest refl (mid_spelled h s).0 where
       by_rest : (k : Summed mid stretch.start at room) (rest : List Chunk) → k.rest ≡ rest → SpelledAll image stretch.start mid (stretch.start + total mid) → room ≡ room_of mid
-      by_rest k [] e spelled = k.sums ∙ ap room_of (sym (append-nil k.front) ∙ ap (λ (cs : List Chunk). k.front ++ cs) (sym e) ∙ sym k.parts)
+      by_rest k [] e spelled = k.sums ∙ ap room_of (sym (append-nil k.front) ∙ ap (λ cs. k.front ++ cs) (sym e) ∙ sym k.parts)
       by_rest k (c ∷ rest) e spelled =
           let parts = k.parts ∙ ap (λ (cs : List Chunk). k.front ++ cs) e in
-          let later = (SpelledAll-split image stretch.start k.front (c ∷ rest) (stretch.start + total mid) (subst (λ (cs : List Chunk). SpelledAll image stretch.start cs (stretch.start + total mid)) parts spelled)).1 in
+          let later = (SpelledAll-split image stretch.start k.front (c ∷ rest) (stretch.start + total mid) (subst (λ cs. SpelledAll image stretch.start cs (stretch.start + total mid)) parts spelled)).1 in
           let least = (Spelled-size image _ c later.0).0 in
           let all = ap total parts ∙ total-append k.front (c ∷ rest) in
           let there = k.there in

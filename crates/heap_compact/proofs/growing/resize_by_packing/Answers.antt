@@ -19,16 +19,10 @@ overflow_add-size_of_body c =
 
 pub grow_in_stretch-requires-clause-fits : goal.grow_in_stretch-requires-clause-fits
 grow_in_stretch-requires-clause-fits c =
-    let same = c.in-Some.ensures.1 in
-    let own = c.size_of_body.ensures in
-    let reaches = c.if-size_of_body-room_of.true in
     fits_in_stretch _ _ c.stretch_around-stretch.ensures.around c.room_of.ensures (omega arith)
 
 pub returns-then-size_of_body-room_of-clause-not_short : goal.returns-then-size_of_body-room_of-clause-not_short
 returns-then-size_of_body-room_of-clause-not_short c =
-    let same = c.in-Some.ensures.1 in
-    let own = c.size_of_body.ensures in
-    let reaches = c.if-size_of_body-room_of.true in
     fits_not_short c.holds.ensures.accepted
     (fits_in_stretch c.args.found (need c.args.count) c.stretch_around-stretch.ensures.around c.room_of.ensures (omega arith))
 
@@ -43,16 +37,12 @@ returns-in-Some-room_by_packing-clause-resized c =
 pub returns-in-Some-room_by_packing-clause-not_short : goal.returns-in-Some-room_by_packing-clause-not_short
 returns-in-Some-room_by_packing-clause-not_short c short =
     let same : c.in-Some.size ≡ need c.args.count = c.in-Some.ensures.1 in
-    let own = c.size_of_body.ensures in
-    let less = c.if-size_of_body-room_of.false in
     c.in-Some-room_by_packing.ensures.not_short
     (rw (← same) at ((short_own c.args.found (need c.args.count) c.holds.ensures.accepted c.stretch_around-stretch.ensures.around c.room_of.ensures (omega arith)).0 short))
 
 pub returns-in-None-room_by_packing-clause-short : goal.returns-in-None-room_by_packing-clause-short
 returns-in-None-room_by_packing-clause-short c =
     let same : c.in-Some.size ≡ need c.args.count = c.in-Some.ensures.1 in
-    let own = c.size_of_body.ensures in
-    let less = c.if-size_of_body-room_of.false in
     (short_own c.args.found (need c.args.count) c.holds.ensures.accepted c.stretch_around-stretch.ensures.around c.room_of.ensures (omega arith)).1
     (subst (λ (n : ℕ). Short c.args.space.now.bytes n) same c.in-None-room_by_packing.ensures.short)
 
@@ -65,7 +55,7 @@ returns-in-Some-room_by_packing-clause-one_stretch c =
 
 pub returns-in-None-room_by_packing-clause-one_stretch : goal.returns-in-None-room_by_packing-clause-one_stretch
 returns-in-None-room_by_packing-clause-one_stretch c =
-    subst (λ (m : Memory). MovesOneStretchAnd c.args.space.now.bytes m.bytes c.args.found.name.0) (sym c.in-None-room_by_packing.ensures.refused) (itself_alone _ _)
+    subst (λ m. MovesOneStretchAnd c.args.space.now.bytes m.bytes c.args.found.name.0) (sym c.in-None-room_by_packing.ensures.refused) (itself_alone _ _)
 
 pub relocate_named-requires-clause-has_run : goal.relocate_named-requires-clause-has_run
 relocate_named-requires-clause-has_run c =

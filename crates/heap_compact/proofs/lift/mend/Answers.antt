@@ -20,7 +20,6 @@ mend_one-at-requires c =
 
 pub overflow_add-at : goal.overflow_add-at
 overflow_add-at c =
-    let fits = c.ranges.end.fits in
     let next = walk_on
     (walk_state c.loop-at.invariant.0 c.requires.carried) (omega arith) c.mend_one-at.ensures.mended in
     omega (arith, next.1)

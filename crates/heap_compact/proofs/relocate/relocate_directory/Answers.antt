@@ -37,6 +37,6 @@ returns c =
       plain = plain_then _ _ _
           (plain_then _ _ _ first.plain other.plain) last.plain;
       out = same_lents last.rest ∙ other.out ∙ same_lents first.rest;
-      slid = same_slid last.rest ∙ other.slid ∙ ap (λ (n : ℕ). n + min c.args.found.length c.args.count) (same_slid first.rest);
+      slid = same_slid last.rest ∙ other.slid ∙ ap (λ n. n + min c.args.found.length c.args.count) (same_slid first.rest);
       heap = last.heap;
     }

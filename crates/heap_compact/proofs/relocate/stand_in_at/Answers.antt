@@ -21,7 +21,7 @@ claim_fixed_at-requires-clause-free c =
 pub returns : goal.returns
 returns c =
     let cut = rw c.size_of_body.ensures at c.take.ensures.cut in
-    let made = cut_claims _ _ _ _ c.args.room.size _ _ (ap need (length-replicate {A = ℕ} c.args.count 0)) c.take.ensures.same cut c.claim_fixed_at.ensures.made in
+    let made = cut_claims _ _ _ _ c.args.room.size _ _ (ap need (length-replicate c.args.count 0)) c.take.ensures.same cut c.claim_fixed_at.ensures.made in
     record {
       lists = lists_any _ _ _ (lists_kept _ _ _ _ c.claim_fixed_at.ensures.keeps c.take.ensures.lists);
       made = made;

@@ -34,14 +34,10 @@ returns-in-Some-clause-grown c =
 
 pub returns-in-Some-clause-tells : goal.returns-in-Some-clause-tells
 returns-in-Some-clause-tells c =
-    let is = c.in-Some.ensures.1 in
-    let enough = c.if-size-own.true in
     in_place_yes _ _ _ _ _ c.size_of_body-own.ensures c.free_run-behind.ensures (omega arith)
 
 pub returns-in_default-clause-tells : goal.returns-in_default-clause-tells
 returns-in_default-clause-tells c =
-    let is = c.in-Some.ensures.1 in
-    let short = c.if-size-own.false in
     in_place_no _ _ _ _ _ c.size_of_body-own.ensures c.free_run-behind.ensures (omega arith)
 
 pub returns-in_default-2-clause-tells : goal.returns-in_default-2-clause-tells

@@ -32,7 +32,7 @@ resize_at-left-requires-clause-behind c = (alike_behind _ _ _ _ c.unlink_run.ens
 
 pub push-requires-clause-free : goal.push-requires-clause-free
 push-requires-clause-free c =
-    subst (λ (n : ℕ). IsFreeChunk c.resize_at-left.new.region.bytes (c.args.found.place.0 - 8 + n) c.resize_at-left.result) (sym c.size_of_body-then-left-gt0.ensures) (c.resize_at-left.ensures.chunk c.if-left-gt0.true)
+    subst (λ n. IsFreeChunk c.resize_at-left.new.region.bytes (c.args.found.place.0 - 8 + n) c.resize_at-left.result) (sym c.size_of_body-then-left-gt0.ensures) (c.resize_at-left.ensures.chunk c.if-left-gt0.true)
 
 pub returns-then-left-gt0 : goal.returns-then-left-gt0
 returns-then-left-gt0 c =

@@ -35,7 +35,7 @@ loop-at-preserved c =
           (rooms_closed _ _ c.loop-at.invariant c.at_with_size-header.ensures.header (c.stays.ensures.0 w.if-stays.true)))
       | else-stays w ↦
           subst (λ n. Passed c.args.region.now.bytes (HaveRooms n c.if-stays.room) (c.loop-at.at + size_by c.at_with_size-header.result.0)) (sym w.largest-is)
-          (subst (λ n. Passed c.args.region.now.bytes (HaveRooms c.loop-at.largest n) (c.loop-at.at + size_by c.at_with_size-header.result.0)) (sym (w.room-is ∙ ap (λ (n : ℕ). c.loop-at.room + n) w.size_if_free-room.ensures))
+          (subst (λ n. Passed c.args.region.now.bytes (HaveRooms c.loop-at.largest n) (c.loop-at.at + size_by c.at_with_size-header.result.0)) (sym (w.room-is ∙ ap (λ n. c.loop-at.room + n) w.size_if_free-room.ensures))
           (rooms_more _ _ c.loop-at.invariant c.at_with_size-header.ensures.header (λ stay. let is = c.stays.ensures.1 stay in let isnt = w.if-stays.false in cc)))
     ])
 

@@ -8,7 +8,7 @@ use Rattle.heap_compact.proofs.space.Space.claim.Goals as goal
 
 claimed : (c : After-build_unless_packed) → Claims c.args.self.now.bytes c.build_unless_packed.new.region.bytes c.args.room.at c.args.room.size (movable (replicate c.args.count 0) 0 c.args.owner c.args.slot.0)
 claimed c =
-    room_claimed _ _ c.self.view_is c.size_of_body.ensures (ap need (length-replicate {A = ℕ} c.args.count 0))
+    room_claimed _ _ c.self.view_is c.size_of_body.ensures (ap need (length-replicate c.args.count 0))
     c.take.ensures.same c.take.ensures.cut c.claim_movable.ensures.made c.build_unless_packed.ensures.same
 
 pub size_of_body-requires : goal.size_of_body-requires

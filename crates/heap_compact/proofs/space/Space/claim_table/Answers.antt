@@ -13,7 +13,7 @@ move_to_last-start-requires-clause-knows c = tables_kept _ c.take.ensures.same.f
 
 put : (c : After-build_unless_packed) → PutsTable c.args.self.now.bytes c.build_unless_packed.new.region.bytes (c.args.room.at + 8)
 put c =
-    subst (λ (m : Memory). PutsTable m.bytes c.build_unless_packed.new.region.bytes (c.args.room.at + 8)) c.self.view_is
+    subst (λ m. PutsTable m.bytes c.build_unless_packed.new.region.bytes (c.args.room.at + 8)) c.self.view_is
     (puts_before _ _ _ _
     (puts_after _ _ _ _ c.take.ensures.same c.claim_table_at.ensures.made) c.build_unless_packed.ensures.same)
 
@@ -21,7 +21,7 @@ pub claim_table_at-requires-clause-free : goal.claim_table_at-requires-clause-fr
 claim_table_at-requires-clause-free c = taken_chunk _ _ _ _ _ _ 64 c.self.view_is c.requires.room c.size_of_body.ensures c.take.ensures.same c.take.ensures.cut
 
 pub claim_table_at-requires-clause-chained : goal.claim_table_at-requires-clause-chained
-claim_table_at-requires-clause-chained c = ap (λ (t : Tables). t.chained) c.take.ensures.same.frame.tables ∙ ap (λ (m : Memory). is_chained m.bytes) c.self.view_is ∙ c.requires.chained
+claim_table_at-requires-clause-chained c = ap (λ t. t.chained) c.take.ensures.same.frame.tables ∙ ap (λ m. is_chained m.bytes) c.self.view_is ∙ c.requires.chained
 
 pub build_unless_packed-requires-clause-lists : goal.build_unless_packed-requires-clause-lists
 build_unless_packed-requires-clause-lists c =

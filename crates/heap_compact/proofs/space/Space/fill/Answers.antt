@@ -10,7 +10,7 @@ fill-requires c = body_within c.self.view_is c.self.invariant c.requires.found c
 written : (c : After-fill) → SpaceWritten c.args.self.now.bytes c.fill.new.self c.self.inside.lists c.self.inside.tables c.args.found c.args.at (replicate c.args.count c.args.byte)
 written c =
     space_written c.self.view_is c.self.invariant c.requires.found c.requires.other c.fill.new.self c.args.at
-    (λ old. replicate c.args.count c.args.byte) (omega (arith, c.requires.within, length-replicate {A = ℕ} c.args.count c.args.byte)) (same_bytes c.fill.ensures.after) (same_lents c.fill.ensures.after)
+    (λ old. replicate c.args.count c.args.byte) (omega (arith, c.requires.within, length-replicate c.args.count c.args.byte)) (same_bytes c.fill.ensures.after) (same_lents c.fill.ensures.after)
 
 pub returns : goal.returns
 returns c =

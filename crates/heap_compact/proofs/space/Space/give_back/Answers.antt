@@ -7,7 +7,7 @@ use Rattle.heap_compact.proofs.space.Space.give_back.Goals as goal
 
 gone : (c : After-release_listed) → Alters c.args.self.now.bytes c.release_listed.new.region.bytes (c.args.found.place.0 - 8) freed
 gone c =
-    subst (λ (m : Memory). Alters m.bytes c.release_listed.new.region.bytes (c.args.found.place.0 - 8) freed) c.self.view_is
+    subst (λ m. Alters m.bytes c.release_listed.new.region.bytes (c.args.found.place.0 - 8) freed) c.self.view_is
     (then_freed _ _ c.self.invariant.heap.accepted c.build.ensures.same
     (rw (← c.self.view_is) at c.requires.found) c.release_listed.ensures.gone)
 
@@ -17,7 +17,7 @@ release_listed-requires-clause-found c =
     (subst (λ (m : Memory). IsOne m.bytes c.args.found) (sym c.self.view_is) c.requires.found)
 
 pub release_listed-requires-clause-no_directory : goal.release_listed-requires-clause-no_directory
-release_listed-requires-clause-no_directory c e = c.requires.no_directory (e ∙ c.build.ensures.same.frame.directory ∙ ap (λ (m : Memory). directory_of m.bytes) c.self.view_is)
+release_listed-requires-clause-no_directory c e = c.requires.no_directory (e ∙ c.build.ensures.same.frame.directory ∙ ap (λ m. directory_of m.bytes) c.self.view_is)
 
 pub returns-clause-gone : goal.returns-clause-gone
 returns-clause-gone c = gone (goal.at.returns-clause-gone c).After-release_listed

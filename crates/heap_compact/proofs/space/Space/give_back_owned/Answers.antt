@@ -9,7 +9,7 @@ release_owned-count-requires-clause-none_lent c = rw (← c.self.view_is) at c.r
 
 pub returns-clause-gone : goal.returns-clause-gone
 returns-clause-gone c =
-    subst (λ (m : Memory). Becomes m.bytes c.gather.new.region.bytes (owned_freed c.args.owner (layout_of m.bytes))) c.self.view_is
+    subst (λ m. Becomes m.bytes c.gather.new.region.bytes (owned_freed c.args.owner (layout_of m.bytes))) c.self.view_is
     (becomes_twice _ _ _ _ c.release_owned-count.ensures.gone c.gather.ensures.same)
 
 pub returns-clause-plain : goal.returns-clause-plain

@@ -25,10 +25,10 @@ heap : (c : After-lend) → HoldsHeap c.lend.new.self
 heap c =
     let h = viewed_heap c.self.view_is c.self.invariant.heap in
     let lent : Lent = record { at = c.args.found.place.0; count = c.args.found.length; start = c.lend.result.start } in
-    let lents = same_lents c.lend.ensures.after ∙ ap (λ (m : Memory). lent ∷ m.lents) c.self.view_is in
+    let lents = same_lents c.lend.ensures.after ∙ ap (λ m. lent ∷ m.lents) c.self.view_is in
     record {
       accepted = (written c).made.frame.accepted;
-      lent = lending_lends c.args.self.now c.lend.new.self c.args.found lent _ h.accepted h.lent c.requires.other lents c.requires.found c.requires.stays (written c).made (length-replicate {A = ℕ} c.args.found.length 0) refl refl;
+      lent = lending_lends c.args.self.now c.lend.new.self c.args.found lent _ h.accepted h.lent c.requires.other lents c.requires.found c.requires.stays (written c).made (length-replicate c.args.found.length 0) refl refl;
     }
 
 pub returns-clause-made : goal.returns-clause-made

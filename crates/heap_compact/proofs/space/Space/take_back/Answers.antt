@@ -19,7 +19,7 @@ written c =
 heap : (c : After-take_back) → HoldsHeap c.take_back.new.self
 heap c =
     let h = viewed_heap c.self.view_is c.self.invariant.heap in
-    let lents = same_lents c.take_back.ensures.after ∙ ap (λ (m : Memory). without c.args.found.place.0 m.lents) c.self.view_is in
+    let lents = same_lents c.take_back.ensures.after ∙ ap (λ m. without c.args.found.place.0 m.lents) c.self.view_is in
     record {
       accepted = (written c).made.frame.accepted;
       lent = back_lends c.args.self.now c.take_back.new.self c.args.found _ h.accepted h.lent lents c.requires.found (written c).made c.requires.whole;

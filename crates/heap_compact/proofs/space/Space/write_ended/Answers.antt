@@ -25,7 +25,7 @@ written c =
     let both = overwritten-behind c.self.inside.region.bytes at c.args.bytes.now (0 ∷ []) end refl (omega (arith, inside, len, c.requires.within)) in
     space_written c.self.view_is c.self.invariant c.requires.found c.requires.other c.fill.new.self c.args.at
     (λ old. c.args.bytes.now ++ 0 ∷ []) (omega (arith, length-append c.args.bytes.now (0 ∷ []), c.requires.within))
-    (same_bytes c.fill.ensures.after ∙ ap (λ (x : List ℕ). overwritten x end (0 ∷ [])) (same_bytes c.write.ensures.after) ∙ both)
+    (same_bytes c.fill.ensures.after ∙ ap (λ x. overwritten x end (0 ∷ [])) (same_bytes c.write.ensures.after) ∙ both)
     (same_lents c.fill.ensures.after ∙ same_lents c.write.ensures.after)
 
 pub returns : goal.returns
