@@ -1,5 +1,5 @@
 -- Bytes that move up spell the same chunks, carried. Bytes that move down spell the same live chunk.
-use Rattle.heap_compact.proofs.Words.{◌≡◌, ℕ, ◌+◌, ◌-◌, ◌≤◌, List, [], ◌∷◌, length, take, drop, refl, sym, ap, subst, ◌∙◌, arith, u32_at, Chunk, free, movable, fixed, need, seen, size_of, total, slot_named, IsLive, Spelled, SpelledAll, carried, all_carried, Carries, Carries-within, u32_at-carried, slice-carried, IsFree-carried, IsLive-carried, SpelledAll-end}
+use Rattle.heap_compact.proofs.Words.{◌≡◌, ℕ, ◌+◌, ◌-◌, ◌≤◌, List, [], ◌∷◌, length, take, drop, refl, sym, ap, subst, ◌∙◌, arith, u32_at, Chunk, free, movable, fixed, need, seen, size_of, total, IsLive, Spelled, SpelledAll, carried, all_carried, Carries, Carries-within, u32_at-carried, slice-carried, IsFree-carried, IsLive-carried, SpelledAll-end}
 
 pub carried_size : (by : ℕ) (c : Chunk) → size_of (carried by c) ≡ size_of c
 carried_size by (free size) = refl

@@ -1,5 +1,5 @@
 -- After the slide and the write of the free header, chunks are lifted and none is mended yet.
-use Rattle.heap_compact.proofs.Words.{◌≡◌, ℕ, ◌+◌, ◌-◌, ◌%◌, ◌^◌, ◌≤◌, List, [], ◌∷◌, ◌++◌, length, take, drop, refl, sym, ap, subst, ◌∙◌, append_assoc, arith, inl, length-take, length-drop, u32_at, u32_bytes, overwritten, Chunk, free, total, IsFree, SpelledAll, area_start, IsHeap, HeapAccepted, HasHeader, all_carried, Lift, Lifting, HasFreeBehind, SameBetween-within, u32_at-written, total-append, SpelledAll-split, SameWords, loose_hold_none, both_hold_none, head_tables, head_slots, same_directory, replaced_tiles, wrote_part, wrote_word, wrote_wider, wrote_then, WroteArea, area_replaces, wrote_slot, Carries, Carries-then, slid_up, heap_in_parts, Middle, middle_of, has_free}
+use Rattle.heap_compact.proofs.Words.{◌≡◌, ℕ, ◌+◌, ◌-◌, ◌%◌, ◌^◌, ◌≤◌, List, [], ◌∷◌, ◌++◌, length, take, drop, refl, ap, ◌∙◌, append_assoc, arith, inl, length-take, length-drop, u32_at, u32_bytes, overwritten, free, total, IsFree, SpelledAll, area_start, IsHeap, HeapAccepted, HasHeader, all_carried, Lift, Lifting, HasFreeBehind, SameBetween-within, u32_at-written, total-append, SpelledAll-split, loose_hold_none, both_hold_none, head_tables, head_slots, same_directory, replaced_tiles, wrote_part, wrote_word, wrote_wider, wrote_then, WroteArea, area_replaces, wrote_slot, Carries, Carries-then, slid_up, heap_in_parts, Middle, middle_of, has_free}
 use Rattle.chunk_format.specs.declared.header.Header.TheVariants as headers
 use Rattle.heap_compact.proofs.CarriedLaws.{SpelledAll-carried}
 
@@ -20,8 +20,7 @@ module _ {old : List ℕ} {start end gap : ℕ} (h : HeapAccepted old) (b : HasF
       let two : IsHeap old (b.before ++ ((b.mid ++ free gap ∷ []) ++ b.after)) = rw (← (append_assoc b.mid (free gap ∷ []) b.after)) at heap in
       let m = middle_of _ b.before (b.mid ++ free gap ∷ []) b.after _ two b.from in
       let both = total-append b.mid (free gap ∷ []) in
-      let parts = SpelledAll-split old _ _ _ _ m.spelled in
-      let there = b.from in
+      let parts = SpelledAll-split old _ _ _ _ m.spelled in let there = b.from in
       record { heap = heap; heap_in_two = two; middle = m; sizes = omega arith; starts = omega arith; chunks = parts.0; is_free = parts.1.0 }
 
   -- what is lifted
@@ -34,8 +33,7 @@ module _ {old : List ℕ} {start end gap : ℕ} (h : HeapAccepted old) (b : HasF
   pub carried_up : {slid new : List ℕ} → slid ≡ overwritten old (start + gap) (take (start + (end - start) - start) (drop start old)) → new ≡ overwritten slid start (u32_bytes (2 ^ 31 + gap)) → HasHeader new start (headers.Free gap)
       → Lifting lift_of new [] b.mid (start + gap)
   carried_up {slid} {new} slid_is new_is header =
-      let f = liftable in
-      let n : ℕ = end - start in
+      let f = liftable in let n : ℕ = end - start in
       let part : List ℕ = take (start + n - start) (drop start old) in
       let inside : end_then ≤ length old = f.middle.inside in
       let least : 8 ≤ gap = f.is_free.header_fits in
@@ -85,7 +83,8 @@ pub record LiftBounds (old : List ℕ) (start end gap : ℕ) : Type 0 where
   pub least : 8 ≤ gap
   pub whole : gap % 8 ≡ 0
 
-pub lift_bounds : {old : List ℕ} {start end gap : ℕ} → HeapAccepted old → HasFreeBehind old start end gap → LiftBounds old start end gap
+pub lift_bounds : {old : List ℕ} {start end gap : ℕ} → HeapAccepted old
+    → HasFreeBehind old start end gap → LiftBounds old start end gap
 lift_bounds h b =
     let f = liftable h b in
     record { up = omega (arith, b.to); inside = omega (arith, f.middle.inside, b.to, f.sizes); most = f.middle.most; least = f.is_free.header_fits; whole = f.is_free.whole }

@@ -1,5 +1,5 @@
 -- A movable chunk moves down over the free chunk before it, and a free chunk is joined with it.
-use Rattle.heap_compact.proofs.Words.{◌≡◌, ◌≢◌, ℕ, zero, suc, ◌+◌, ◌-◌, ◌^◌, ◌<◌, ◌≤◌, List, [], ◌∷◌, ◌++◌, length, take, drop, refl, sym, ap, subst, ◌∙◌, append_assoc, arith, inl, inr, length-take, length-drop, cases_eq, ◌↔◌, u32_at, u32_bytes, overwritten, Chunk, free, movable, need, size_of, slot_named, total, IsFree, IsLive, Spelled, SpelledAll, IsSlot, area_start, TablesLie, BodyHere, IsBody, IsHeap, HeapAccepted, chunks_of, gap, HasHeader, Reslots, with_slot_at, BecomesExactly, IsDroppable, MovesDown, KeepsFree, Before, u32_at-written, total-append, Spelled-same, SpelledAll-split, IsBody-low, IsBody-high, AnyPlaced-mid, AnyPlaced-split, AnyPlaced-left, AnyPlaced-right, SlotFacts, slot_facts, free_hold_none, IsBeside, slot_beside, replaced_heap, kept_directory, WroteWithin, wrote_part, wrote_word, wrote_wider, wrote_then, wrote_none, wrote_apart, WroteArea, area_replaces, wrote_slots, area_slots, beside_same, beside_word, table_kept, chunks_of-tiled, free_plain, replaced_plain, Carries, Carries-within, slid_down, heap_in_parts, Middle, middle_of, gap_free, gap_total, has_free, keeps_replaced, outside_apart}
+use Rattle.heap_compact.proofs.Words.{◌≡◌, ◌≢◌, ℕ, zero, suc, ◌+◌, ◌-◌, ◌^◌, ◌<◌, ◌≤◌, List, [], ◌∷◌, ◌++◌, length, take, drop, refl, sym, ap, subst, ◌∙◌, append_assoc, arith, inl, inr, length-take, length-drop, cases_eq, ◌↔◌, u32_at, u32_bytes, overwritten, Chunk, free, movable, need, size_of, slot_named, total, IsFree, Spelled, SpelledAll, IsSlot, area_start, TablesLie, BodyHere, IsBody, IsHeap, HeapAccepted, chunks_of, gap, HasHeader, Reslots, with_slot_at, BecomesExactly, IsDroppable, MovesDown, KeepsFree, Before, u32_at-written, total-append, Spelled-same, SpelledAll-split, IsBody-low, IsBody-high, AnyPlaced-mid, AnyPlaced-split, AnyPlaced-left, AnyPlaced-right, SlotFacts, slot_facts, free_hold_none, IsBeside, slot_beside, replaced_heap, kept_directory, WroteWithin, wrote_part, wrote_word, wrote_wider, wrote_then, wrote_none, wrote_apart, WroteArea, area_replaces, wrote_slots, area_slots, beside_same, beside_word, table_kept, chunks_of-tiled, free_plain, replaced_plain, Carries, Carries-within, slid_down, heap_in_parts, Middle, middle_of, gap_free, gap_total, has_free, keeps_replaced, outside_apart}
 use Rattle.laws_heap.proofs.FreeChunks.{free_replaced}
 use Rattle.chunk_format.specs.declared.header.Header.TheVariants as headers
 use Rattle.heap_compact.proofs.CarriedLaws.{IsLive-carried_down}
@@ -23,10 +23,10 @@ pub record DropFacts {old : List ℕ} {at room size slot : ℕ} (d : IsDroppable
   pub beside : IsBeside slot to (to + total (free room ∷ movable d.bytes 0 d.owner slot ∷ []))
   pub inside : to + room + need (length d.bytes) ≤ length old
 
-pub drop_facts : {old : List ℕ} {at room size slot : ℕ} (to : ℕ) → HeapAccepted old → (d : IsDroppable old at room size slot) → to ≡ at - room → DropFacts d to
+pub drop_facts : {old : List ℕ} {at room size slot : ℕ} (to : ℕ) → HeapAccepted old
+    → (d : IsDroppable old at room size slot) → to ≡ at - room → DropFacts d to
 drop_facts {old} {at} {room} {slot} to h d e =
-    let c : Chunk = movable d.bytes 0 d.owner slot in
-    let heap = heap_in_parts _ _ h d.chunks in
+    let c : Chunk = movable d.bytes 0 d.owner slot in let heap = heap_in_parts _ _ h d.chunks in
     let to_is : to ≡ area_start old + total d.before = omega (arith, d.there, e) in
     let at_is : at ≡ to + room = omega (arith, d.there, e) in
     let m = middle_of _ d.before (free room ∷ c ∷ []) d.after _ heap to_is in
@@ -64,14 +64,16 @@ module _ {old : List ℕ} {at room size slot to : ℕ} {d : IsDroppable old at r
   -- the ties, where it is down
   module _ (new : List ℕ) (own : u32_at new slot ≡ to + 8) (others : (other : ℕ) → IsSlot old other → other ≢ slot → u32_at new other ≡ u32_at old other) where
     -- what was elsewhere is held by another slot
-    elsewhere : (name place : ℕ) → 0 < place → IsBody (area_start old) was name place → place ≢ at + 8 → IsSlot old name × (u32_at new name ≡ place)
+    elsewhere : (name place : ℕ) → 0 < place → IsBody (area_start old) was name place
+        → place ≢ at + 8 → IsSlot old name × (u32_at new name ≡ place)
     elsewhere name place some b apart =
         let s = (f.heap.tied name place some).1 b in
         let isnt : name ≢ slot = λ same. apart (sym s.1 ∙ ap (u32_at old) same ∙ f.held) in
         (s.0, others name s.0 isnt ∙ s.1)
 
     -- the other chunks are where they were
-    still : (name place : ℕ) → name ≢ slot → IsBody (area_start old) was name place → IsBody (area_start old) is name place
+    still : (name place : ℕ) → name ≢ slot → IsBody (area_start old) was name place
+        → IsBody (area_start old) is name place
     still name place isnt b = elim (AnyPlaced-split (BodyHere name place) (area_start old) d.before (free room ∷ c ∷ d.after) b) [
       | inl front ↦ AnyPlaced-left (BodyHere name place) (area_start old) d.before (c ∷ free room ∷ d.after) front
       | inr rest ↦ elim rest [
@@ -85,7 +87,8 @@ module _ {old : List ℕ} {at room size slot to : ℕ} {d : IsDroppable old at r
       ]
     ]
 
-    down_ties : (name place : ℕ) → 0 < place → ((IsSlot old name × (u32_at new name ≡ place)) ↔ IsBody (area_start old) is name place)
+    down_ties : (name place : ℕ) → 0 < place
+        → ((IsSlot old name × (u32_at new name ≡ place)) ↔ IsBody (area_start old) is name place)
     down_ties name place some = (forth, back) where
       forth : IsSlot old name × (u32_at new name ≡ place) → IsBody (area_start old) is name place
       forth s = elim (cases_eq name slot) [
@@ -184,7 +187,8 @@ module _ {old : List ℕ} {at room size slot to : ℕ} {d : IsDroppable old at r
 
 -- every such chunk goes down
 pub all_dropped : {old slid head hole new : List ℕ} {at room size slot : ℕ} → HeapAccepted old → slid ≡ overwritten old (at - room) (take (at + size - at) (drop at old)) → head ≡ with_slot_at slid (at - room) slot → hole ≡ overwritten head (at - room + size) (u32_bytes (2 ^ 31 + room))
-    → Reslots slid head (at - room) slot → HasHeader hole (at - room + size) (headers.Free room) → new ≡ overwritten hole slot (u32_bytes (at - room + 8))
+    → Reslots slid head (at - room) slot → HasHeader hole (at - room + size) (headers.Free room)
+    → new ≡ overwritten hole slot (u32_bytes (at - room + 8))
     → MovesDown old new at room size slot × ((d : IsDroppable old at room size slot) → KeepsFree (Before (at - room)) old new)
 all_dropped h slid_is head_is hole_is reslots rest new_is = (
   λ d. (dropped (drop_facts _ h d refl) slid_is head_is hole_is reslots rest new_is).0,
@@ -213,8 +217,7 @@ join_facts {old} before size after {at} room to h chunks there e =
     let heap = heap_in_parts _ _ h (chunks ∙ ap (λ cs. before ++ cs) (sym (append_assoc (gap room) (free size ∷ []) after))) in
     let to_is : to ≡ area_start old + total before = omega (arith, there, e) in
     let m = middle_of _ before (gap room ++ free size ∷ []) after _ heap to_is in
-    let a = total-append (gap room) (free size ∷ []) in
-    let b = gap_total room in
+    let a = total-append (gap room) (free size ∷ []) in let b = gap_total room in
     let parts = SpelledAll-split old to (gap room) (free size ∷ []) (to + total (gap room ++ free size ∷ [])) m.spelled in
     let here : to + total (gap room) ≡ at = omega (arith, b, there, e) in
     record { accepted = h; heap = heap; middle = m; sizes = omega (arith, a, b); to_is = to_is; is_free = rw here at parts.1.0 }

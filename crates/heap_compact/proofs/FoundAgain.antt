@@ -1,12 +1,13 @@
 -- A found chunk is found again after another directory was named, or free chunks were joined.
-use Rattle.heap_compact.proofs.Words.{◌≡◌, ◌≢◌, ℕ, ◌-◌, ◌≤◌, List, [], ◌∷◌, refl, sym, ap, ◌∙◌, arith, Chunk, area_start, chunks_of, merged, layout_of, exchanged, Becomes, Alters, freed, need, managers_owner, HeapAccepted, directory_of, held, IsSpot, with_length, Relocates, NamesDirectory, Found, IsOne, RelocatesFound, becomes_held, becomes_place, becomes_start, frame_then, held_parts, relocate_changes, one_held, when_movable}
+use Rattle.heap_compact.proofs.Words.{◌≡◌, ◌≢◌, ℕ, ◌-◌, ◌≤◌, List, [], ◌∷◌, refl, sym, ap, ◌∙◌, arith, area_start, chunks_of, merged, layout_of, exchanged, Becomes, Alters, freed, need, managers_owner, HeapAccepted, directory_of, held, IsSpot, with_length, Relocates, NamesDirectory, Found, IsOne, RelocatesFound, becomes_held, becomes_place, becomes_start, frame_then, held_parts, relocate_changes, one_held, when_movable}
 use Rattle.heap_model.specs.Store.{owner_of, owner_under}
 use Rattle.heap_compact.proofs.RelocateLaws.{found_held, one_placed}
 use Rattle.laws_heap.proofs.Meanings.{held-zero}
 use Rattle.laws_heap.proofs.Directory.{named_finds, directory_owned}
 
 -- it is found as it was
-abbrev pub named_one : {old new : List ℕ} {word : ℕ} (found : Found) → NamesDirectory old new word → IsOne old found → IsOne new found
+abbrev pub named_one : {old new : List ℕ} {word : ℕ} (found : Found) → NamesDirectory old new word
+    → IsOne old found → IsOne new found
 named_one found n f = record {
   live = f.live;
   chunk = f.chunk;
@@ -36,7 +37,8 @@ moved_owner {old} {mid} new found {at} {size} count h f unlocked is n r fits mov
 -- ---- free chunks are joined
 
 -- what was found is found still, where the layout is the same
-pub same_found : {old new : List ℕ} (found : Found) → HeapAccepted old → Becomes old new (chunks_of old) → IsOne old found → IsOne new found
+pub same_found : {old new : List ℕ} (found : Found) → HeapAccepted old
+    → Becomes old new (chunks_of old) → IsOne old found → IsOne new found
 same_found {old} found h b f = found_held _ found f.live b.frame.accepted (becomes_held _ _ _ found.name.0 b ∙ sym (held_parts old (chunks_of old) found.name.0 refl) ∙ one_held _ found h f) (becomes_place _ _ _ found.name.0 b ∙ one_placed _ found h f) f.count f.lock_is f.owner_is
 
 pub then_freed : {old mid : List ℕ} (new : List ℕ) (found : Found) → HeapAccepted old → Becomes old mid (chunks_of old) → IsOne old found → Alters mid new (found.place.0 - 8) freed → Alters old new (found.place.0 - 8) freed

@@ -1,13 +1,15 @@
 -- The remembered tables of a space stay right in the same frame, and after a table is added.
-use Rattle.heap_compact.proofs.Words.{Bool, true, false, ◌≡◌, ℕ, ◌++◌, refl, List, [], ◌∷◌, sym, subst, arith, inl, inr, slice_index, OnTrue, OnFalse, Memory, Table, further_tables, SameFrame, GrowsInPlace, gained, GainsTable, HoldsHeap, HasLongTable, KnowsTables, Remembered, RemembersPlace, HasLists, IsSpace}
+use Rattle.heap_compact.proofs.Words.{Bool, true, false, ◌≡◌, ℕ, ◌++◌, refl, List, [], ◌∷◌, subst, arith, inl, inr, slice_index, OnTrue, OnFalse, Memory, Table, further_tables, SameFrame, GrowsInPlace, gained, GainsTable, HoldsHeap, HasLongTable, KnowsTables, Remembered, RemembersPlace, HasLists, IsSpace}
 use Rattle.master_table.proofs.RowLaws.{starts_gained}
 use Rattle.master_table.proofs.FurtherLaws.{knows_still, knows_more}
 
-pub tables_kept : {old new : List ℕ} (known : Remembered) → SameFrame old new → KnowsTables old known → KnowsTables new known
+pub tables_kept : {old new : List ℕ} (known : Remembered) → SameFrame old new
+    → KnowsTables old known → KnowsTables new known
 tables_kept {old} {new} known f knows = knows_still old new known f.tables knows
 
 -- of a region that is the value of its space
-pub viewed_kept : {old region : Memory} {new : List ℕ} (known : Remembered) → region ≡ old → SameFrame old.bytes new → KnowsTables region.bytes known → KnowsTables new known
+pub viewed_kept : {old region : Memory} {new : List ℕ} (known : Remembered) → region ≡ old
+    → SameFrame old.bytes new → KnowsTables region.bytes known → KnowsTables new known
 viewed_kept known view f knows = tables_kept known f (rw view at knows)
 
 -- so the space is one
@@ -28,7 +30,8 @@ grown_kept old new known at count false grown same knows = rw (← same) at know
 
 -- ---- where a table is added
 
-still_listed : (tables : List Table) (place at : ℕ) → HasLongTable tables at → HasLongTable (tables ++ gained place ∷ []) at
+still_listed : (tables : List Table) (place at : ℕ) → HasLongTable tables at
+    → HasLongTable (tables ++ gained place ∷ []) at
 still_listed [] place at h = absurd h
 still_listed (t ∷ tables) place at h = elim h [ inl own ↦ inl own | inr later ↦ inr (still_listed tables place at later) ]
 

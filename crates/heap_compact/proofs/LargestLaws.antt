@@ -9,7 +9,8 @@ abbrev raised : ℕ → List ℕ → List ℕ
 raised more [] = more ∷ []
 raised more (room ∷ others) = (more + room) ∷ others
 
-raised_onto : (more : ℕ) (c : Chunk) (runs : List (List Chunk)) → raised more (rooms_of (onto_first c runs)) ≡ raised (more + free_size c) (rooms_of runs)
+raised_onto : (more : ℕ) (c : Chunk) (runs : List (List Chunk))
+    → raised more (rooms_of (onto_first c runs)) ≡ raised (more + free_size c) (rooms_of runs)
 raised_onto more c [] = let s = sum_by-cons free_size c [] in let none : sum_by free_size [] ≡ 0 = refl in ap (λ n. n ∷ []) (let e : more + room_of (c ∷ []) ≡ more + free_size c = omega arith in e)
 raised_onto more c (run ∷ runs) = let s = sum_by-cons free_size c run in ap (λ n. n ∷ rooms_of runs) (let e : more + room_of (c ∷ run) ≡ more + free_size c + room_of run = omega arith in e)
 
@@ -22,7 +23,8 @@ stays_behind more cs e =
     let rest = e ∙ raised_none (rooms_of (runs_between cs)) in
     ap (λ n. max more n) rest ∙ ap (λ n. max n (greatest _)) (let e : more ≡ more + room_of [] = omega arith in e)
 
-runs_greatest : (more : ℕ) (cs : List Chunk) → greatest_behind more cs ≡ greatest (raised more (rooms_of (runs_between cs)))
+runs_greatest : (more : ℕ) (cs : List Chunk)
+    → greatest_behind more cs ≡ greatest (raised more (rooms_of (runs_between cs)))
 runs_greatest more [] = let none : room_of [] ≡ 0 = refl in let e : more ≡ max (more + room_of []) 0 = omega arith in e
 runs_greatest more (free size ∷ cs) = runs_greatest (more + size) cs ∙ sym (ap greatest (raised_onto more (free size) (runs_between cs)))
 runs_greatest more (movable bytes zero owner slot ∷ cs) =
@@ -48,7 +50,8 @@ more_total : (cs : List Chunk) (c : Chunk) → total (cs ++ c ∷ []) ≡ total 
 more_total cs c = let both = total-append cs (c ∷ []) in let none : total [] ≡ 0 = refl in omega arith
 
 -- one more chunk
-rooms_stay : {largest room : ℕ} {cs : List Chunk} (c : Chunk) → HeaderStays (header_of c) → HaveRooms largest room cs → HaveRooms (max largest room) 0 (cs ++ c ∷ [])
+rooms_stay : {largest room : ℕ} {cs : List Chunk} (c : Chunk) → HeaderStays (header_of c)
+    → HaveRooms largest room cs → HaveRooms (max largest room) 0 (cs ++ c ∷ [])
 rooms_stay (free size) stay h = absurd stay
 rooms_stay (movable bytes zero owner slot) stay h = absurd (omega (arith, stay))
 rooms_stay {cs} (movable bytes (suc count) owner slot) stay h = record {
@@ -60,7 +63,8 @@ rooms_stay {cs} (fixed bytes owner) stay h = record {
   fits = omega arith;
 }
 
-rooms_go_on : {largest room : ℕ} {cs : List Chunk} (c : Chunk) → (HeaderStays (header_of c) → ⊥) → HaveRooms largest room cs → HaveRooms largest (room + free_by (header_of c)) (cs ++ c ∷ [])
+rooms_go_on : {largest room : ℕ} {cs : List Chunk} (c : Chunk) → (HeaderStays (header_of c) → ⊥)
+    → HaveRooms largest room cs → HaveRooms largest (room + free_by (header_of c)) (cs ++ c ∷ [])
 rooms_go_on {cs} (free size) loose h = record {
   on = λ others. ap (greatest_behind 0) (append_assoc cs (free size ∷ []) others) ∙ h.on (free size ∷ others);
   fits = let low = h.fits in let more = more_total cs (free size) in omega arith;
@@ -78,8 +82,7 @@ pub rooms_start : {image : List ℕ} → HeapAccepted image → Passed image (Ha
 rooms_start h = passed_start _ (HaveRooms 0 0) h no_rooms
 
 pub rooms_fit : {image : List ℕ} (largest room : ℕ) {at : ℕ} → Passed image (HaveRooms largest room) at → room ≤ at
-rooms_fit largest room p =
-    omega (arith, passed_at _ _ _ p, p.holds.fits)
+rooms_fit largest room p = omega (arith, passed_at _ _ _ p, p.holds.fits)
 
 pub rooms_closed : {image : List ℕ} (largest room : ℕ) {at : ℕ} {header : Header} → Passed image (HaveRooms largest room) at → HasHeader image at header → HeaderStays header → Passed image (HaveRooms (max largest room) 0) (at + size_by header)
 rooms_closed largest room p has stay =

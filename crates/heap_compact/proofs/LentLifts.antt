@@ -1,17 +1,20 @@
 -- Lifting chunks touches no lent part, and each lent part stays a body.
-use Rattle.heap_compact.proofs.Words.{◌≡◌, ℕ, ◌+◌, ◌-◌, ◌≤◌, ◌<◌, List, [], ◌∷◌, ◌++◌, length, sym, ap, subst, ◌∙◌, append_assoc, arith, Memory, Lent, Misses, IsWithin, Chunk, free, total, IsSlot, TablesLie, HasTable, tables_of, slots_of, head_end, slot_size, EveryOne, chunks_of, NoneStays, HoldsHeap, Lifting, HasFreeBehind, Lifts, AreCarried, MendedUpTo, Walks, total-append, none_stays-append, each_slot, tables_lie, same_slots, ends_listed, part_within, part_misses, run_within, loose_lends}
+use Rattle.heap_compact.proofs.Words.{◌≡◌, ℕ, ◌+◌, ◌-◌, ◌≤◌, ◌<◌, List, [], ◌∷◌, ◌++◌, length, sym, ap, subst, ◌∙◌, append_assoc, arith, Memory, Lent, Misses, IsWithin, Chunk, free, total, IsSlot, TablesLie, HasTable, tables_of, slots_of, slot_size, EveryOne, chunks_of, NoneStays, HoldsHeap, Lifting, HasFreeBehind, Lifts, AreCarried, MendedUpTo, Walks, total-append, none_stays-append, each_slot, tables_lie, same_slots, ends_listed, part_within, part_misses, run_within, loose_lends}
 use Rattle.heap_compact.proofs.ExactLaws.{exactly_becomes}
 use Rattle.heap_compact.proofs.LiftedWalkLaws.{some_size}
 
 -- ---- the chunks that are lifted, and the free one after them
 
-in_parts : {image : List ℕ} {start end gap : ℕ} (b : HasFreeBehind image start end gap) → chunks_of image ≡ b.before ++ ((b.mid ++ free gap ∷ []) ++ b.after)
+in_parts : {image : List ℕ} {start end gap : ℕ} (b : HasFreeBehind image start end gap)
+    → chunks_of image ≡ b.before ++ ((b.mid ++ free gap ∷ []) ++ b.after)
 in_parts {gap} b = b.chunks ∙ ap (λ cs. b.before ++ cs) (sym (append_assoc b.mid (free gap ∷ []) b.after))
 
-none_stay : {image : List ℕ} {start end gap : ℕ} (b : HasFreeBehind image start end gap) → NoneStays (b.mid ++ free gap ∷ [])
+none_stay : {image : List ℕ} {start end gap : ℕ} (b : HasFreeBehind image start end gap)
+    → NoneStays (b.mid ++ free gap ∷ [])
 none_stay {gap} b = (none_stays-append b.mid (free gap ∷ [])).1 (b.loose, tt)
 
-pub lifted_within : {m : Memory} {start end gap : ℕ} → HoldsHeap m → HasFreeBehind m.bytes start end gap → IsWithin m start (end - start + gap)
+pub lifted_within : {m : Memory} {start end gap : ℕ} → HoldsHeap m
+    → HasFreeBehind m.bytes start end gap → IsWithin m start (end - start + gap)
 lifted_within {m} {start} {end} {gap} h b =
     let sizes = total-append b.mid (free gap ∷ []) in
     part_within _ _ _ start (end - start + gap)
@@ -19,8 +22,7 @@ lifted_within {m} {start} {end} {gap} h b =
 
 pub lifted_holds : {old new : Memory} {start end gap : ℕ} → HoldsHeap old → new.lents ≡ old.lents → HasFreeBehind old.bytes start end gap → Lifts old.bytes new.bytes start end gap → HoldsHeap new
 lifted_holds {old} {new} {gap} h same b lifts =
-    let sizes = total-append b.mid (free gap ∷ []) in
-    let x = lifts b in
+    let sizes = total-append b.mid (free gap ∷ []) in let x = lifts b in
     record {
       accepted = x.frame.accepted;
       lent = loose_lends old new b.before (b.mid ++ free gap ∷ []) (free gap ∷ b.mid) b.after h.lent same (in_parts b)
@@ -30,7 +32,8 @@ lifted_holds {old} {new} {gap} h same b lifts =
 -- ---- the tables, while the chunks are mended
 
 -- in a memory as long with the same tables
-pub table_still : {old : Memory} (new : Memory) → HasTable old → new.lents ≡ old.lents → length new.bytes ≡ length old.bytes → tables_of new.bytes ≡ tables_of old.bytes → HasTable new
+pub table_still : {old : Memory} (new : Memory) → HasTable old → new.lents ≡ old.lents
+    → length new.bytes ≡ length old.bytes → tables_of new.bytes ≡ tables_of old.bytes → HasTable new
 table_still {old} new t same len tables = record {
   lie = tables_lie _ new.bytes len tables t.lie;
   first_misses = rw (← same) at (rw (← (ends_listed old.bytes new.bytes tables)) at t.first_misses);
@@ -57,9 +60,9 @@ walk_misses {image} lents {at} {end} w a more m = by_back s.back s.lifting s.end
   s : MendedUpTo a.lift image a.done a.rest at end
   s = w a.lift a.done a.rest a.lifting a.ends
 
-  by_back : (back : List Chunk) → Lifting a.lift image (a.done ++ s.front) back at → end ≡ at + total back → Misses lents at 8
+  by_back : (back : List Chunk) → Lifting a.lift image (a.done ++ s.front) back at
+      → end ≡ at + total back → Misses lents at 8
   by_back [] l e = absurd (omega (arith, e, more))
   by_back (c ∷ back) l e =
-      let was = a.lifting.there in
-      let t = total-append a.done s.front in
+      let was = a.lifting.there in let t = total-append a.done s.front in
       part_misses _ _ _ at 8 m (omega (arith, was, l.there, t)) (omega (arith, was, l.there, t, e, some_size l))

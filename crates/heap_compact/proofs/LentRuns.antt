@@ -4,7 +4,8 @@ use Rattle.heap_compact.proofs.Words.{◌≡◌, ◌≢◌, ℕ, zero, suc, ◌+
 -- ---- a chunk that isn't lent, and what is free after it
 
 -- its first bytes may be read and written
-pub front_within : {m : Memory} {found : Found} {n : ℕ} → HoldsHeap m → IsOne m.bytes found → LendsOther m found.place.0 → n ≤ found.length → IsWithin m found.place.0 n
+pub front_within : {m : Memory} {found : Found} {n : ℕ} → HoldsHeap m → IsOne m.bytes found
+    → LendsOther m found.place.0 → n ≤ found.length → IsWithin m found.place.0 n
 front_within {m} {found} {n} h f other few =
     let start : found.place.0 + 0 ≡ found.place.0 = omega arith in
     subst (λ k. IsWithin m k n) start (one_body_within m _ 0 n h.accepted h.lent f other (omega (arith, few)))
@@ -13,11 +14,11 @@ pub regrown_within : {m : Memory} {found : Found} {more : ℕ} → HoldsHeap m �
 regrown_within {m} {found} {more} h r other =
     let inside = (run_facts _ _ _ h.accepted r).inside in
     record { inside = inside; misses = each_to (IsLentBody m.bytes) (MissesOne (found.place.0 - 8) (need found.length + more)) m.lents h.lent go } where
-      go : (lent : Lent) → IsAmong lent m.lents → IsLentBody m.bytes lent → MissesOne (found.place.0 - 8) (need found.length + more) lent
+      go : (lent : Lent) → IsAmong lent m.lents → IsLentBody m.bytes lent
+          → MissesOne (found.place.0 - 8) (need found.length + more) lent
       go lent is x =
           let o = each_of (λ w. w.at ≢ found.place.0) lent m.lents other is in
-          let f = r.one.finds in
-          let p = lent_chunk m.bytes lent x in
+          let f = r.one.finds in let p = lent_chunk m.bytes lent x in
           let size = found_size m.bytes found r.one in
           let t = total-append f.before (r.one.chunk ∷ []) in
           let e = f.chunks ∙ ap (λ cs. f.before ++ r.one.chunk ∷ cs) r.parts ∙ sym (append_assoc f.before (r.one.chunk ∷ []) (r.run ++ r.rest)) in
@@ -32,7 +33,8 @@ regrown_within {m} {found} {more} h r other =
             m_chunks : List Chunk
             m_chunks = chunks_of m.bytes
 
-not_among : (lent : Lent) (at : ℕ) (c : Chunk) (run : List Chunk) → AllFree run → lent.at ≢ at + 8 → AnyPlaced (LentHere lent) at (c ∷ run) → ⊥
+not_among : (lent : Lent) (at : ℕ) (c : Chunk) (run : List Chunk) → AllFree run → lent.at ≢ at + 8
+    → AnyPlaced (LentHere lent) at (c ∷ run) → ⊥
 not_among lent at c run f o x = elim x [
   | inl here ↦ o (stays_here lent at c here).there
   | inr rest ↦ none_lent lent (at + size_of c) run (all_free_loose run f) rest
@@ -40,7 +42,8 @@ not_among lent at c run f o x = elim x [
 
 -- ---- a chunk without locks that is dropped over room
 
-pub dropped_within : {m : Memory} {at room size slot : ℕ} → HoldsHeap m → IsDroppable m.bytes at room size slot → IsWithin m (at - room) (room + size)
+pub dropped_within : {m : Memory} {at room size slot : ℕ} → HoldsHeap m
+    → IsDroppable m.bytes at room size slot → IsWithin m (at - room) (room + size)
 dropped_within {m} {at} {room} {size} {slot} h d =
     let pair : List Chunk = free room ∷ movable d.bytes 0 d.owner slot ∷ [] in
     let sizes : total pair ≡ room + size = omega (arith, d.takes) in
@@ -48,8 +51,7 @@ dropped_within {m} {at} {room} {size} {slot} h d =
 
 pub dropped_holds : {old new : Memory} {at room size slot : ℕ} → HoldsHeap old → new.lents ≡ old.lents → IsDroppable old.bytes at room size slot → MovesDown old.bytes new.bytes at room size slot → HoldsHeap new
 dropped_holds {old} {new} {room} {slot} h same d moves =
-    let v : Chunk = movable d.bytes 0 d.owner slot in
-    let b = moves d in
+    let v : Chunk = movable d.bytes 0 d.owner slot in let b = moves d in
     record { accepted = b.frame.accepted; lent = loose_lends old new d.before (free room ∷ v ∷ []) (v ∷ free room ∷ []) d.after h.lent same d.chunks (record { frame = b.frame; layout = ap merged b.exact }) (omega arith) tt }
 
 -- ---- a chunk with room in front of it that is packed
@@ -98,7 +100,8 @@ pub resized_total : (count : ℕ) {more : ℕ} (c : Chunk) (run : List Chunk) �
 resized_total count {more} c run sums both =
     omega (arith, gap_total (size_of c + more - need count), sums, both.0, both.1)
 
-pub length_size : (count name at : ℕ) (live : LiveChunk) (c : Chunk) → NamedHere name live at c → size_of (with_length count c) ≡ need count
+pub length_size : (count name at : ℕ) (live : LiveChunk) (c : Chunk) → NamedHere name live at c
+    → size_of (with_length count c) ≡ need count
 length_size count name at live (free size) n = absurd n
 length_size count name at live (movable bytes lock owner slot) n = ap need (length-sized_to _ _)
 length_size count name at live (fixed bytes owner) n = ap need (length-sized_to bytes count)

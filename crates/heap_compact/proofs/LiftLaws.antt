@@ -1,10 +1,11 @@
 -- When all lifted chunks are mended, the image is a heap again.
-use Rattle.heap_compact.proofs.Words.{◌≡◌, ℕ, zero, suc, ◌+◌, ◌-◌, ◌^◌, ◌<◌, List, [], ◌∷◌, ◌++◌, length, refl, sym, ap, subst, ◌∙◌, append_assoc, arith, inl, inr, ◌⊎◌, ◌↔◌, cases_eq, u32_at, Chunk, free, movable, fixed, need, size_of, total, Table, Tables, IsSlot, area_start, further_tables, BodyHere, IsBody, IsKnownIfFixed, ManagersHere, directory_of, HasDirectory, IsHeap, EveryPlaced, AnyPlaced, chunks_of, NoneStays, WritesPlain, lives, Lift, Lifting, HasFreeBehind, Lifts, IsFreeChunk, BecomesExactly, IsBody-low, IsBody-high, EveryPlaced-append, EveryPlaced-split, AnyPlaced-left, AnyPlaced-right, AnyPlaced-split, total-append, SameWords, slot_alike, start_listed, free_plain, lives_plain, middle_plain, chunks_of-tiled}
+use Rattle.heap_compact.proofs.Words.{◌≡◌, ℕ, zero, suc, ◌+◌, ◌-◌, ◌^◌, ◌<◌, List, [], ◌∷◌, ◌++◌, refl, sym, ap, subst, ◌∙◌, append_assoc, arith, inl, inr, ◌⊎◌, ◌↔◌, cases_eq, u32_at, Chunk, free, movable, fixed, size_of, total, Table, Tables, IsSlot, area_start, further_tables, BodyHere, IsBody, IsKnownIfFixed, ManagersHere, directory_of, HasDirectory, IsHeap, EveryPlaced, AnyPlaced, chunks_of, NoneStays, WritesPlain, lives, Lift, Lifting, HasFreeBehind, Lifts, IsFreeChunk, BecomesExactly, IsBody-low, IsBody-high, EveryPlaced-append, EveryPlaced-split, AnyPlaced-left, AnyPlaced-right, AnyPlaced-split, total-append, slot_alike, start_listed, free_plain, lives_plain, middle_plain, chunks_of-tiled}
 use Rattle.heap_compact.proofs.ExactLaws.{exactly_start}
 
 -- ---- what does not depend on where a chunk stands
 
-loose_known : (tables : List Table) (at : ℕ) (cs : List Chunk) → NoneStays cs → EveryPlaced (IsKnownIfFixed tables) at cs
+loose_known : (tables : List Table) (at : ℕ) (cs : List Chunk) → NoneStays cs
+    → EveryPlaced (IsKnownIfFixed tables) at cs
 loose_known tables at [] n = tt
 loose_known tables at (free size ∷ cs) n = (tt, loose_known tables (at + size) cs n)
 loose_known tables at (movable bytes zero owner slot ∷ cs) n = (tt, loose_known _ _ cs n)
@@ -16,7 +17,8 @@ managers_here slot m n (free size) h = h
 managers_here slot m n (movable bytes lock owner named) h = h
 managers_here slot m n (fixed bytes owner) h = h
 
-managers_anywhere : (slot m n : ℕ) (cs : List Chunk) → AnyPlaced (ManagersHere slot) m cs → AnyPlaced (ManagersHere slot) n cs
+managers_anywhere : (slot m n : ℕ) (cs : List Chunk) → AnyPlaced (ManagersHere slot) m cs
+    → AnyPlaced (ManagersHere slot) n cs
 managers_anywhere slot m n [] h = h
 managers_anywhere slot m n (c ∷ cs) h = elim h [ inl here ↦ inl (managers_here slot m n c here) | inr later ↦ inr (managers_anywhere slot (m + size_of c) (n + size_of c) cs later) ]
 
@@ -39,7 +41,8 @@ body_down slot place at by (free size) b = b
 body_down slot place at by (movable bytes lock owner named) b = let e = b.1 in (b.0, omega arith)
 body_down slot place at by (fixed bytes owner) b = b
 
-bodies_down : (slot place at by : ℕ) (cs : List Chunk) → IsBody (at + by) cs slot place → IsBody at cs slot (place - by)
+bodies_down : (slot place at by : ℕ) (cs : List Chunk) → IsBody (at + by) cs slot place
+    → IsBody at cs slot (place - by)
 bodies_down slot place at by [] b = b
 bodies_down slot place at by (c ∷ cs) b = elim b [
   | inl here ↦ inl (body_down slot place at by c here)
@@ -47,13 +50,16 @@ bodies_down slot place at by (c ∷ cs) b = elim b [
 ]
 
 -- a body among chunks in a row
-pub body_in : (at : ℕ) (xs ys : List Chunk) (next slot place : ℕ) → next ≡ at + total xs → IsBody at (xs ++ ys) slot place → IsBody at xs slot place ⊎ IsBody next ys slot place
+pub body_in : (at : ℕ) (xs ys : List Chunk) (next slot place : ℕ) → next ≡ at + total xs
+    → IsBody at (xs ++ ys) slot place → IsBody at xs slot place ⊎ IsBody next ys slot place
 body_in at xs ys next slot place e b = elim (AnyPlaced-split _ at xs ys b) [ inl front ↦ inl front | inr back ↦ inr (rw (← e) at back) ]
 
-pub body_behind : (at : ℕ) (xs ys : List Chunk) (next slot place : ℕ) → next ≡ at + total xs → IsBody next ys slot place → IsBody at (xs ++ ys) slot place
+pub body_behind : (at : ℕ) (xs ys : List Chunk) (next slot place : ℕ) → next ≡ at + total xs
+    → IsBody next ys slot place → IsBody at (xs ++ ys) slot place
 body_behind at xs ys next slot place e b = AnyPlaced-right _ at xs ys (rw e at b)
 
-pub body_front : (at : ℕ) (xs ys : List Chunk) (slot place : ℕ) → IsBody at xs slot place → IsBody at (xs ++ ys) slot place
+pub body_front : (at : ℕ) (xs ys : List Chunk) (slot place : ℕ) → IsBody at xs slot place
+    → IsBody at (xs ++ ys) slot place
 body_front at xs ys slot place b = AnyPlaced-left (BodyHere slot place) at xs ys b
 
 -- ---- all are mended: the ties are whole again
@@ -78,7 +84,8 @@ module _ {gap : ℕ} {u : Lift gap} {image : List ℕ} {moved : List Chunk} {at 
   end = l.there
 
   -- a slot that contained a place before
-  to_new : (slot : ℕ) → IsSlot u.old slot → 0 < u32_at u.old slot → IsBody (area_start u.old) lifted slot (u32_at image slot)
+  to_new : (slot : ℕ) → IsSlot u.old slot → 0 < u32_at u.old slot
+      → IsBody (area_start u.old) lifted slot (u32_at image slot)
   to_new slot s some = elim (body_in (area_start u.old) u.before (moved ++ free gap ∷ u.after) _ slot (u32_at u.old slot) is_start ((l.heap.tied slot (u32_at u.old slot) some).0 (s, refl))) [
     | inl front ↦
         let high = IsBody-high (area_start u.old) u.before slot (u32_at u.old slot) front in
@@ -104,10 +111,12 @@ module _ {gap : ℕ} {u : Lift gap} {image : List ℕ} {moved : List Chunk} {at 
   ]
 
   -- a body that there is now
-  of_old : (slot place : ℕ) → IsBody (area_start u.old) unlifted slot place → 0 < place → IsSlot u.old slot × (u32_at u.old slot ≡ place)
+  of_old : (slot place : ℕ) → IsBody (area_start u.old) unlifted slot place → 0 < place
+      → IsSlot u.old slot × (u32_at u.old slot ≡ place)
   of_old slot place b some = (l.heap.tied slot place some).1 b
 
-  to_old : (slot place : ℕ) → IsBody (area_start u.old) lifted slot place → IsSlot u.old slot × (u32_at image slot ≡ place)
+  to_old : (slot place : ℕ) → IsBody (area_start u.old) lifted slot place
+      → IsSlot u.old slot × (u32_at image slot ≡ place)
   to_old slot place b = elim (body_in (area_start u.old) u.before (free gap ∷ (moved ++ u.after)) _ slot place is_start b) [
     | inl front ↦
         let low = IsBody-low (area_start u.old) u.before slot place front in
@@ -142,7 +151,8 @@ module _ {gap : ℕ} {u : Lift gap} {image : List ℕ} {moved : List Chunk} {at 
   slot_old : (slot : ℕ) → IsSlot image slot → IsSlot u.old slot
   slot_old slot s = slot_alike _ u.old _ (sym l.slots) s
 
-  place_new : (slot place : ℕ) → 0 < place → u32_at image slot ≡ place → IsSlot u.old slot → IsBody (area_start u.old) lifted slot place
+  place_new : (slot place : ℕ) → 0 < place → u32_at image slot ≡ place → IsSlot u.old slot
+      → IsBody (area_start u.old) lifted slot place
   place_new slot place some e s = elim (cases_eq (u32_at u.old slot) 0) [
     | inl none ↦ let same : u32_at image slot ≡ u32_at u.old slot = l.kept slot s (inl (omega (arith, none))) in absurd (omega arith)
     | inr used ↦ rw e at (to_new slot s (omega arith))
@@ -166,7 +176,8 @@ module _ {gap : ℕ} {u : Lift gap} {image : List ℕ} {moved : List Chunk} {at 
       (EveryPlaced-append known (area_start u.old) u.before (free gap ∷ (moved ++ u.after)) first.0
       (tt, EveryPlaced-append known (here + gap) moved u.after (loose_known (further_tables u.old) (here + gap) moved loose) (rw e at second.1.1))))
 
-  managers_again : (slot : ℕ) → AnyPlaced (ManagersHere slot) (area_start u.old) unlifted → AnyPlaced (ManagersHere slot) (area_start image) lifted
+  managers_again : (slot : ℕ) → AnyPlaced (ManagersHere slot) (area_start u.old) unlifted
+      → AnyPlaced (ManagersHere slot) (area_start image) lifted
   managers_again slot h =
       let here : ℕ = area_start image + total u.before in
       let P : ℕ → Chunk → Type 0 = ManagersHere slot in
@@ -208,7 +219,8 @@ module _ {gap : ℕ} {u : Lift gap} {image : List ℕ} {moved : List Chunk} {at 
   }
 
 -- the free chunk stands where the first of them stood
-pub lifted_room : {old new : List ℕ} {start end gap : ℕ} → HasFreeBehind old start end gap → Lifts old new start end gap → IsFreeChunk new start gap
+pub lifted_room : {old new : List ℕ} {start end gap : ℕ} → HasFreeBehind old start end gap
+    → Lifts old new start end gap → IsFreeChunk new start gap
 lifted_room f lifts =
     let b = lifts f in
     record { before = f.before; after = f.mid ++ f.after; chunks = b.exact; there = f.from ∙ ap (λ n. n + total f.before) (sym (exactly_start b)) }

@@ -19,7 +19,8 @@ some_size {gap} {image} {c} {at} l =
 
 module _ {first image : List ℕ} {gap start at end : ℕ} (w : Walks first image gap start at end) where
   -- the walk has passed one more chunk
-  pub walk_more : {new : List ℕ} {next : ℕ} → at < end → MendsOne image new gap at next → Walks first new gap start next end
+  pub walk_more : {new : List ℕ} {next : ℕ} → at < end → MendsOne image new gap at next
+      → Walks first new gap start next end
   walk_more {new} {next} more mends u done rest l e = one_more s.back s.parts s.lifting s.ends where
     s : MendedUpTo u image done rest at end
     s = w u done rest l e
@@ -67,6 +68,5 @@ module _ {image : List ℕ} {gap at end : ℕ} (a : AreCarried image gap at end)
     on : (rest : List Chunk) → Lifting a.lift image a.done rest at → end ≡ at + total rest → (at < next) × (next ≤ end)
     on [] l e = absurd (omega (arith, e, more))
     on (c ∷ rest) l e =
-        let is = (mends a.lift a.done c rest l).there in
-        let both = total-append a.done (c ∷ []) in
+        let is = (mends a.lift a.done c rest l).there in let both = total-append a.done (c ∷ []) in
         (omega (arith, l.there, is, both, some_size l), omega (arith, l.there, is, both, e))

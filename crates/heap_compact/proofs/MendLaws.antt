@@ -1,5 +1,5 @@
 -- Mending one more chunk keeps what is known while chunks are lifted.
-use Rattle.heap_compact.proofs.Words.{◌≡◌, ◌≢◌, ℕ, ◌+◌, ◌-◌, ◌%◌, ◌^◌, ◌<◌, ◌≤◌, List, [], ◌∷◌, ◌++◌, length, refl, sym, ap, subst, ◌∙◌, append_assoc, arith, inl, inr, cases_eq, cases_lt, u32_at, u32_bytes, overwritten, Chunk, free, movable, fixed, need, size_of, total, Spelled, IsSlot, TablesLie, area_start, Tiles, BodyHere, IsHeap, header_of, size_by, HasHeader, Reslots, with_slot_at, Header, carried, all_carried, Lift, Lifting, u32_at-written, total-append, Spelled-size, Spelled-same, SameWords, words_then, Spelled-unique, SpelledAll-split, SlotFacts, slot_facts, IsBeside, slot_beside, slot_alike, start_listed, IsBody-low, IsBody-high, EveryPlaced-split, AnyPlaced-mid, AnyPlaced-split, head_tables, head_slots, same_directory, replaced_tiles, WroteWithin, wrote_word, wrote_wider, WroteArea, area_replaces, area_slots, beside_same, table_kept, total_whole}
+use Rattle.heap_compact.proofs.Words.{◌≡◌, ◌≢◌, ℕ, ◌+◌, ◌-◌, ◌%◌, ◌^◌, ◌<◌, ◌≤◌, List, [], ◌∷◌, ◌++◌, length, refl, sym, ap, subst, ◌∙◌, append_assoc, arith, inl, inr, cases_eq, cases_lt, u32_at, u32_bytes, overwritten, Chunk, free, movable, fixed, need, size_of, total, Spelled, IsSlot, TablesLie, area_start, Tiles, BodyHere, IsHeap, header_of, size_by, HasHeader, Reslots, with_slot_at, Header, carried, all_carried, Lift, Lifting, u32_at-written, total-append, Spelled-size, Spelled-same, words_then, Spelled-unique, SpelledAll-split, SlotFacts, slot_facts, IsBeside, slot_beside, slot_alike, start_listed, IsBody-low, IsBody-high, EveryPlaced-split, AnyPlaced-mid, AnyPlaced-split, head_tables, head_slots, same_directory, replaced_tiles, WroteWithin, wrote_word, wrote_wider, WroteArea, area_replaces, area_slots, beside_same, table_kept, total_whole}
 use Rattle.chunk_format.specs.declared.header.Header.TheVariants as headers
 use Rattle.heap_compact.proofs.CarriedLaws.{carried_total}
 
@@ -8,8 +8,7 @@ use Rattle.heap_compact.proofs.CarriedLaws.{carried_total}
 -- a slot that holds a place among the bytes of a chunk holds the place of that chunk
 whose : {old : List ℕ} (front : List Chunk) (c : Chunk) (back : List Chunk) {at slot : ℕ} → IsHeap old (front ++ c ∷ back) → at ≡ area_start old + total front → IsSlot old slot → at < u32_at old slot → u32_at old slot ≤ at + size_of c → BodyHere slot (u32_at old slot) at c
 whose {old} front c back {slot} h there s low high =
-    let place : ℕ = u32_at old slot in
-    let P : ℕ → Chunk → Type 0 = BodyHere slot place in
+    let place : ℕ = u32_at old slot in let P : ℕ → Chunk → Type 0 = BodyHere slot place in
     elim (AnyPlaced-split P _ _ _ ((h.tied slot place (omega arith)).0 (s, refl))) [
       | inl early ↦ let up = IsBody-high _ front slot place early in absurd (omega (arith, up, low, there))
       | inr rest ↦ elim rest [
@@ -51,8 +50,7 @@ module _ {gap : ℕ} {u : Lift gap} {image : List ℕ} {done : List Chunk} {c : 
 
   pub next_of : NextOf u image done c rest at
   next_of =
-      let both = total-append u.before done in
-      let more = total-append u.before (free gap ∷ done) in
+      let both = total-append u.before done in let more = total-append u.before (free gap ∷ done) in
       let starts = start_listed u.old image l.tables in
       let at_is : at ≡ area_start image + total front = omega (arith, l.there, more, starts) in
       let tiles : Tiles image (front ++ carried gap c ∷ others) = rw (← (append_assoc u.before (free gap ∷ done) (carried gap c ∷ others))) at l.tiles in
@@ -82,14 +80,16 @@ module _ {gap : ℕ} {u : Lift gap} {image : List ℕ} {done : List Chunk} {c : 
   grown_there = let more = total-append done (c ∷ []) in omega (arith, l.there, more)
 
   -- a slot that holds a place among its bytes is its own
-  whose_next : (slot : ℕ) → IsSlot u.old slot → at < u32_at u.old slot + gap → u32_at u.old slot + gap ≤ at + size_of c → BodyHere slot (u32_at u.old slot) next_of.was c
+  whose_next : (slot : ℕ) → IsSlot u.old slot → at < u32_at u.old slot + gap
+      → u32_at u.old slot + gap ≤ at + size_of c → BodyHere slot (u32_at u.old slot) next_of.was c
   whose_next slot s beyond high =
       let n = next_of in
       whose _ c _ n.heap n.was_is s (omega (arith, beyond, n.at_is)) (omega (arith, high, n.at_is))
 
   -- ---- a chunk that needs no mending
 
-  pub step_kept : carried gap c ≡ c → ((slot place n : ℕ) → BodyHere slot place n c → ⊥) → Lifting u image (done ++ c ∷ []) rest (at + size_of c)
+  pub step_kept : carried gap c ≡ c → ((slot place n : ℕ) → BodyHere slot place n c → ⊥)
+      → Lifting u image (done ++ c ∷ []) rest (at + size_of c)
   step_kept same no_body = record {
     heap = next_of.grown;
     there = grown_there;
@@ -128,14 +128,12 @@ module _ {gap : ℕ} {u : Lift gap} {image : List ℕ} {done : List Chunk} {byte
   -- its slot, and what it holds
   own_slot : IsSlot u.old slot × (u32_at u.old slot ≡ (next_of l).was + 8)
   own_slot =
-      let n = next_of l in
-      let here = AnyPlaced-mid _ _ _ c _ (refl, omega (arith, n.was_is)) in
+      let n = next_of l in let here = AnyPlaced-mid _ _ _ c _ (refl, omega (arith, n.was_is)) in
       (n.heap.tied slot (n.was + 8) (omega arith)).1 here
 
   mendable : Mendable u image done bytes lock owner slot rest at
   mendable =
-      let n = next_of l in
-      let is_slot = slot_alike _ image _ l.slots own_slot.0 in
+      let n = next_of l in let is_slot = slot_alike _ image _ l.slots own_slot.0 in
       let facts = slot_facts _ _ _ n.tiles is_slot in
       let size : at + total (carried gap c ∷ []) ≡ at + need (length bytes) = omega arith in
       record {
@@ -164,8 +162,7 @@ module _ {gap : ℕ} {u : Lift gap} {image : List ℕ} {done : List Chunk} {byte
 
     step_mended : {new : List ℕ} → Reslots image mid at slot → new ≡ overwritten mid slot (u32_bytes (at + 8)) → Lifting u new (done ++ c ∷ []) rest (at + need (length bytes))
     step_mended {new} reslots new_is =
-        let m = mendable in
-        let there = m.next.there in
+        let m = mendable in let there = m.next.there in
         let inside : at + need (length bytes) ≤ length image = m.next.inside in
         let word = wrote_word mid _ slot (at + 8) new_is (omega (arith, m.facts.inside, head_wrote.len)) in
         let w : WroteArea image new at (at + total (carried gap c ∷ [])) = record {
@@ -215,7 +212,8 @@ module _ {gap : ℕ} {u : Lift gap} {image : List ℕ} {done : List Chunk} {byte
 
 -- ---- the header that is read
 
-pub header_there : {image : List ℕ} {at : ℕ} (c : Chunk) {h : Header} → Spelled image at c → HasHeader image at h → h ≡ header_of c
+pub header_there : {image : List ℕ} {at : ℕ} (c : Chunk) {h : Header} → Spelled image at c
+    → HasHeader image at h → h ≡ header_of c
 header_there {image} {at} c s found = found.header_is ∙ ap header_of (Spelled-unique image at found.chunk c found.spelled s)
 
 -- of a movable chunk whose header was read: its slot may be written, and then its place
@@ -239,8 +237,7 @@ mends (fixed bytes v) l found size_is is = let e = header_there (fixed bytes v) 
 mends {gap} {u} {image} {done} (movable bytes k v slot) {rest} {at} {size} {named} l found size_is is =
     let m = mendable l in
     let e = header_there (carried gap (movable bytes k v slot)) m.next.spelled found in
-    let d : named ≡ (slot + gap) % 2 ^ 25 = cc in
-    let up : named ≡ slot + gap = d ∙ m.unwound in
+    let d : named ≡ (slot + gap) % 2 ^ 25 = cc in let up : named ≡ slot + gap = d ∙ m.unwound in
     let takes : need (length bytes) ≡ size = sym (size_is ∙ ap size_by e) in
     let back : named - gap ≡ slot = omega (arith, up) in
     record {

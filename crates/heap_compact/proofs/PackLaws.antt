@@ -38,7 +38,8 @@ slot_there (headers.Free size) isnt goes = absurd (isnt size refl)
 slot_there (headers.Movable length lock owner slot) isnt goes = refl
 slot_there (headers.Fixed length owner) isnt goes = absurd (goes tt)
 
-staying_one : (c : Chunk) {header : Header} → header ≡ header_of c → HeaderStays header → (room : ℕ) → (packed_one room c ≡ gap room ++ c ∷ []) × ((moved_one room c ≡ 0) × (room_after room c ≡ 0))
+staying_one : (c : Chunk) {header : Header} → header ≡ header_of c → HeaderStays header → (room : ℕ)
+    → (packed_one room c ≡ gap room ++ c ∷ []) × ((moved_one room c ≡ 0) × (room_after room c ≡ 0))
 staying_one (free n) e stay room = absurd (subst HeaderStays e stay)
 staying_one (movable bytes zero owner slot) e stay room = let k = subst HeaderStays e stay in absurd (omega (arith, k))
 staying_one (movable bytes (suc count) owner slot) e stay room = (refl, (refl, refl))
@@ -81,8 +82,7 @@ module _ {old : List ℕ} {at room : ℕ} (h : HeapAccepted old) (b : IsBehindRo
 
     pub join_writable : IsWritableHeader (at - room) (headers.Free (room + size))
     join_writable =
-        let f = joins in
-        let least : 8 ≤ size = f.is_free.header_fits in
+        let f = joins in let least : 8 ≤ size = f.is_free.header_fits in
         (omega (arith, least), omega (arith, f.middle.whole, f.sizes), omega (arith, f.middle.inside, f.middle.most, f.sizes))
 
     module _ {new : List ℕ} (is : new ≡ overwritten old (at - room) (u32_bytes (2 ^ 31 + (room + size)))) (written : HasHeader new (at - room) (headers.Free (room + size))) where
@@ -115,7 +115,8 @@ module _ {old : List ℕ} {at room : ℕ} (h : HeapAccepted old) (b : IsBehindRo
       takes = takes;
     }
 
-    pub packed_movable : {new : List ℕ} → 0 < room → MovesDown old new at room size slot → PackedOne b new size size room
+    pub packed_movable : {new : List ℕ} → 0 < room → MovesDown old new at room size slot
+        → PackedOne b new size size room
     packed_movable {new} some down =
         packed_as b v loose.2 (subst (λ (g : List Chunk). BecomesExactly old new (b.before ++ v ∷ (g ++ b.after))) (sym (gap_some room some)) (down (droppable some)))
         takes (takes ∙ sym (moved_some room (size_of v) some)) refl
@@ -123,19 +124,19 @@ module _ {old : List ℕ} {at room : ℕ} (h : HeapAccepted old) (b : IsBehindRo
   -- ---- one that stays where it is
 
   -- it may not move
-  staying : {header : Header} {size : ℕ} → HasHeader old at header → HeaderStays header → size ≡ size_by header → PackedOne b old size 0 0
+  staying : {header : Header} {size : ℕ} → HasHeader old at header → HeaderStays header
+      → size ≡ size_by header → PackedOne b old size 0 0
   staying found stay size_is =
-      let e = behind_header found in
-      let s = staying_one b.chunk e stay room in
+      let e = behind_header found in let s = staying_one b.chunk e stay room in
       let chunks = b.chunks ∙ ap (λ (cs : List Chunk). b.before ++ cs) (sym (append_assoc (gap room) (b.chunk ∷ []) b.after)) ∙ ap (λ (cs : List Chunk). b.before ++ (cs ++ b.after)) (sym s.0) in
       packed_as b b.chunk refl (exactly_itself h chunks) (size_is ∙ ap size_by e ∙ size_by-header_of b.chunk) (sym s.1.0) (sym s.1.1)
 
   -- it has no room in front of it
-  without_room : {header : Header} {size : ℕ} → HasHeader old at header → IsNotFree header → (HeaderStays header → ⊥) → size ≡ size_by header → room ≡ 0 → PackedOne b old size 0 0
+  without_room : {header : Header} {size : ℕ} → HasHeader old at header → IsNotFree header
+      → (HeaderStays header → ⊥) → size ≡ size_by header → room ≡ 0 → PackedOne b old size 0 0
   without_room {header} found isnt goes size_is none =
       let named = some_slot header (slot_there header isnt goes) in
-      let l = loose found goes named.1 size_is in
-      let w : Chunk = movable l.0 0 l.1 named.0 in
+      let l = loose found goes named.1 size_is in let w : Chunk = movable l.0 0 l.1 named.0 in
       let g = gap_none none in
       let chunks = with_chunk w l.2 ∙ ap (λ (k : List Chunk). b.before ++ (k ++ w ∷ b.after)) g ∙ ap (λ (k : List Chunk). b.before ++ w ∷ (k ++ b.after)) (sym g) in
       packed_as b w l.2 (exactly_itself h chunks) (takes found goes named.1 size_is) (sym (moved_none _ none)) (sym none)
@@ -148,7 +149,8 @@ module _ {old : List ℕ} {at room : ℕ} (h : HeapAccepted old) (b : IsBehindRo
   ]
 
 -- the room in front of it
-pub room_in_front : {image : List ℕ} {at room : ℕ} → IsBehindRoom image at room → (room ≤ at) × (0 < room → IsFreeChunk image (at - room) room)
+pub room_in_front : {image : List ℕ} {at room : ℕ} → IsBehindRoom image at room
+    → (room ≤ at) × (0 < room → IsFreeChunk image (at - room) room)
 room_in_front {room} b =
     let there = b.there in (
       omega (arith, there),
@@ -180,12 +182,12 @@ record Behind {old : List ℕ} {start end : ℕ} (run : IsRun old start end) (ne
 
 module _ {old : List ℕ} {start end : ℕ} {run : IsRun old start end} {new : List ℕ} {at moved room : ℕ} {done : List Chunk} where
   -- it stays
-  stayed : {c : Chunk} {rest : List Chunk} {size more room_then : ℕ} → Behind run new at moved room done c rest size more room_then
+  stayed : {c : Chunk} {rest : List Chunk} {size more room_then : ℕ}
+      → Behind run new at moved room done c rest size more room_then
       → packed_one room c ≡ gap room ++ c ∷ [] → packed_behind room (c ∷ rest) ≡ gap room ++ c ∷ packed_behind 0 rest → moved_behind room (c ∷ rest) ≡ moved_behind 0 rest → last_room room (c ∷ rest) ≡ last_room 0 rest → moved_one room c ≡ 0 → room_after room c ≡ 0
       → Packing run new (at + size) (moved + more) room_then
   stayed {c} {rest} {room_then} b one packs moves rooms none_moved none =
-      let behind : List Chunk = gap room ++ c ∷ [] in
-      let two = total-append (gap room) (c ∷ []) in
+      let behind : List Chunk = gap room ++ c ∷ [] in let two = total-append (gap room) (c ∷ []) in
       let no_room : room_then ≡ 0 = b.room_is ∙ none in
       let same = ap (λ (k : ℕ). moved_behind k rest) no_room in
       let left : BecomesExactly old new (run.before ++ (done ++ (behind ++ (gap room_then ++ (rest ++ run.after))))) =
@@ -216,8 +218,7 @@ module _ {old : List ℕ} {start end : ℕ} {run : IsRun old start end} {new : L
         room_is = ap (λ (k : ℕ). last_room k rest) b.room_is ∙ b.rooms;
       }
   grown (movable bytes zero owner slot) {rest} {room_then} b =
-      let v : Chunk = movable bytes 0 owner slot in
-      let same : room_then ≡ room = b.room_is in
+      let v : Chunk = movable bytes 0 owner slot in let same : room_then ≡ room = b.room_is in
       let rest_same = ap (λ (k : ℕ). moved_behind k rest) same in
       record {
         done = done ++ v ∷ [];
@@ -309,12 +310,12 @@ module _ {old image : List ℕ} {start end at moved room : ℕ} (w : PacksUpTo o
   pub packing_more : {new : List ℕ} {size more room_then : ℕ} → at < end → PacksOne image new at room size more room_then → PacksUpTo old new start end (at + size) (moved + more) room_then
   packing_more on p run = one_packed (w run) (w run).rest refl on p
 
-  pub packing_on : {new : List ℕ} {size more room_then : ℕ} → IsRun old start end → at < end → PacksOne image new at room size more room_then → GoesOn start end at moved size more
+  pub packing_on : {new : List ℕ} {size more room_then : ℕ} → IsRun old start end → at < end
+      → PacksOne image new at room size more room_then → GoesOn start end at moved size more
   packing_on run on p =
       let b = packing_next run on in
       let least = (Spelled-size _ at _ (behind_spelled (w run).becomes.frame.accepted b)).0 in
-      let next = packing_more on p run in
-      let few = moved_few 0 run.mid in
+      let next = packing_more on p run in let few = moved_few 0 run.mid in
       record { on = omega (arith, least, (p b).size_is); within = omega (arith, next.ends); few = omega (arith, next.moved_is, few, run.to) }
 
   -- the room after what is packed
@@ -335,13 +336,15 @@ module _ {old image : List ℕ} {start end at moved room : ℕ} (w : PacksUpTo o
 
 -- ---- all chunks of an image
 
-abbrev pub run_whole : {old : List ℕ} {start end : ℕ} → HeapAccepted old → start ≡ area_start old → end ≡ length old → IsRun old start end
+abbrev pub run_whole : {old : List ℕ} {start end : ℕ} → HeapAccepted old → start ≡ area_start old
+    → end ≡ length old → IsRun old start end
 run_whole {old} h from to =
     let heap = heap_of_read _ _ h.1 in
     let last = SpelledAll-end old (area_start old) (chunks_of old) (length old) heap.tiles.area in
     record { before = []; mid = chunks_of old; after = []; chunks = sym (append-nil (chunks_of old)); from = omega (arith, from); to = omega (arith, from, to, last) }
 
-pub compacted : {old new : List ℕ} {start end : ℕ} → HeapAccepted old → start ≡ area_start old → end ≡ length old → Packs old new start end → BecomesExactly old new (packed (chunks_of old))
+pub compacted : {old new : List ℕ} {start end : ℕ} → HeapAccepted old → start ≡ area_start old
+    → end ≡ length old → Packs old new start end → BecomesExactly old new (packed (chunks_of old))
 compacted {old} {new} h from to p =
     subst (λ cs. BecomesExactly old new cs) (append-nil (packed (chunks_of old))) (p (run_whole h from to))
 
@@ -355,7 +358,8 @@ gap_loose : (room n : ℕ) → NoneStays (gap room ++ free n ∷ [])
 gap_loose zero n = tt
 gap_loose (suc room) n = tt
 
-pub join_misses : {m : Memory} {at room n : ℕ} → HoldsHeap m → IsBehindRoom m.bytes at room → HasHeader m.bytes at (headers.Free n) → Misses m.lents (at - room) 8
+pub join_misses : {m : Memory} {at room n : ℕ} → HoldsHeap m → IsBehindRoom m.bytes at room
+    → HasHeader m.bytes at (headers.Free n) → Misses m.lents (at - room) 8
 join_misses {m} {at} {room} {n} h b found =
     let least : 8 ≤ n = (joins h.accepted b found refl).is_free.header_fits in
     let t = total-append (gap room) (free n ∷ []) in

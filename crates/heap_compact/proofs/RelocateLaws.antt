@@ -1,5 +1,5 @@
 -- A chunk that moves to room elsewhere keeps its bytes and its name, step by step.
-use Rattle.heap_compact.proofs.Words.{◌≡◌, ◌≢◌, ℕ, ◌+◌, ◌-◌, ◌%◌, ◌^◌, ◌<◌, ◌≤◌, List, [], ◌∷◌, ◌++◌, length, take, drop, replicate, Bool, Option, Some, None, refl, sym, ap, subst, ◌∙◌, arith, inl, inr, length-replicate, take_all, take-take, drop-replicate, cases_lt, OnTrue_at, OnTrue_from, OnTrue, slice_range, min, u32_at, u32_bytes, sized_to, Chunk, free, movable, fixed, fixed_lock, need, size_of, Spelled, data_owner, total, IsSlot, TablesLie, HeapAccepted, LiveChunk, NamedHere, chunks_of, held, NoRun, place_of, Finds, Becomes, Alters, freed, with_bytes, IsSpot, Claims, WritesPlain, with_length, Relocates, HasHeader, live_words, h_offset_to, Found, IsOne, stand_in, KeepsFound, Copies, with_name, RelocatesToRun, Any, KeepsFree, ChangesName, claims_change, spot_unheld, spot_is_run, length-sized_to, relocates, slot_unheld, Spelled-size, Spelled-same, plain-callers, plain-movable, u32_at-written, length-overwritten, slot_facts, named_hold_none, slot_beside, wrote_wider, wrote_word, WroteArea, area_replaces, area_slots, beside_same, table_kept, becomes_heap, slot_kept, lives_plain, replaced_plain, heap_in_parts, middle_of, found_inside, own_slot, one_held, when_movable, keeps_replaced, live_apart, header_movable, wrote_words}
+use Rattle.heap_compact.proofs.Words.{◌≡◌, ◌≢◌, ℕ, ◌+◌, ◌-◌, ◌%◌, ◌^◌, ◌<◌, ◌≤◌, List, [], ◌∷◌, ◌++◌, length, take, drop, replicate, Bool, Option, Some, None, refl, sym, ap, subst, ◌∙◌, arith, inl, inr, length-replicate, take_all, take-take, drop-replicate, cases_lt, OnTrue_at, OnTrue_from, OnTrue, slice_range, min, u32_at, u32_bytes, sized_to, Chunk, free, movable, fixed, fixed_lock, need, size_of, Spelled, data_owner, total, IsSlot, TablesLie, HeapAccepted, LiveChunk, chunks_of, held, NoRun, place_of, Finds, Becomes, Alters, freed, with_bytes, IsSpot, Claims, WritesPlain, with_length, Relocates, HasHeader, live_words, h_offset_to, Found, IsOne, stand_in, KeepsFound, Copies, with_name, RelocatesToRun, Any, KeepsFree, ChangesName, claims_change, spot_unheld, spot_is_run, length-sized_to, relocates, slot_unheld, Spelled-size, Spelled-same, plain-callers, plain-movable, u32_at-written, length-overwritten, slot_facts, named_hold_none, slot_beside, wrote_wider, wrote_word, WroteArea, area_replaces, area_slots, beside_same, table_kept, becomes_heap, slot_kept, lives_plain, replaced_plain, heap_in_parts, middle_of, found_inside, own_slot, one_held, when_movable, keeps_replaced, live_apart, header_movable, wrote_words}
 use Rattle.heap_model.specs.Bytes.{overwritten}
 use Rattle.std.proofs.lemmas.List.{length-take}
 use Rattle.laws_heap.proofs.FoundChunks.{held_finds, finds_spelled, finds_body}
@@ -31,7 +31,8 @@ found_held image found live h is there count lock owner =
       same : (m n : ℕ) → Some m ≡ Some n → m ≡ n
       same m n e = cc
 
-pub one_placed : (image : List ℕ) (found : Found) → HeapAccepted image → IsOne image found → place_of image found.name.0 ≡ Some found.place.0
+pub one_placed : (image : List ℕ) (found : Found) → HeapAccepted image → IsOne image found
+    → place_of image found.name.0 ≡ Some found.place.0
 one_placed image found h f =
     let there : found.place.0 - 8 + 8 ≡ found.place.0 = omega arith in
     finds_place _ _ _ _ _ h f.finds ∙ ap some_place there where
@@ -59,7 +60,8 @@ stands_there new count h r fits x =
     found_held _ _ _ ch.frame.accepted ch.here ch.place (sym (length-replicate count 0)) refl refl
 
 -- nothing else has its name
-pub stand_apart : {old : List ℕ} {at size : ℕ} (count : ℕ) (found : Found) → HeapAccepted old → IsSpot old at size → need count ≤ size → IsOne old found → found.name.0 ≢ fixed_name at
+pub stand_apart : {old : List ℕ} {at size : ℕ} (count : ℕ) (found : Found) → HeapAccepted old
+    → IsSpot old at size → need count ≤ size → IsOne old found → found.name.0 ≢ fixed_name at
 stand_apart {old} count found h r fits f e =
     let none = spot_unheld _ _ _ h (omega arith) r in
     absurd (no f.live (sym (one_held _ found h f) ∙ ap (held old) e ∙ none)) where
@@ -75,17 +77,14 @@ pub named_write : {old mid new : List ℕ} {at name : ℕ} {live : LiveChunk} {b
     → mid ≡ overwritten old at (live_words (length bytes) 0 owner (h_offset_to at slot)) → HasHeader mid at (headers.Movable (length bytes) 0 owner slot) → new ≡ overwritten mid slot (u32_bytes (at + 8))
     → Becomes old new (f.before ++ movable bytes 0 owner slot ∷ f.after) × WritesPlain old new × KeepsFree Any old new
 named_write {old} {mid} {new} {at} {name} {live} {bytes} {holder} {owner} {slot} h f s empty mid_is header new_is =
-    let c : Chunk = fixed bytes holder in
-    let d : Chunk = movable bytes 0 owner slot in
+    let c : Chunk = fixed bytes holder in let d : Chunk = movable bytes 0 owner slot in
     let heap = heap_in_parts _ _ h f.chunks in
-    let m = middle_of _ f.before (c ∷ []) f.after _ heap f.there in
-    let inside = m.inside in
+    let m = middle_of _ f.before (c ∷ []) f.after _ heap f.there in let inside = m.inside in
     let slot_inside = (slot_facts _ _ _ h.1.tiles s).inside in
     let none = named_hold_none _ f.before c [] f.after name live heap (rw f.there at f.named) tt in
     let beside = slot_beside _ f.before (c ∷ []) f.after _ _ heap.tiles none f.there s in
     let first = wrote_words old _ at (length bytes) 0 owner (h_offset_to at slot) (omega arith) mid_is in
-    let len = first.len in
-    let word = wrote_word mid _ slot (at + 8) new_is (omega arith) in
+    let len = first.len in let word = wrote_word mid _ slot (at + 8) new_is (omega arith) in
     let was : Spelled old at c = finds_spelled _ _ _ _ _ h f in
     let k = header_movable (length bytes) 0 owner slot header.chunk header.header_is in
     let now : Spelled mid at (movable k.0 0 owner slot) = rw k.1.0 at header.spelled in
@@ -104,7 +103,8 @@ named_write {old} {mid} {new} {at} {name} {live} {bytes} {holder} {owner} {slot}
     )
 
 -- by what was found
-pub named_there : {old mid new : List ℕ} (there : Found) {owner slot : ℕ} → HeapAccepted old → IsOne old there → there.lock ≡ fixed_lock → IsSlot old slot → u32_at old slot ≡ 0
+pub named_there : {old mid new : List ℕ} (there : Found) {owner slot : ℕ} → HeapAccepted old
+    → IsOne old there → there.lock ≡ fixed_lock → IsSlot old slot → u32_at old slot ≡ 0
     → mid ≡ overwritten old (there.place.0 - 8) (live_words there.length 0 owner (h_offset_to (there.place.0 - 8) slot)) → HasHeader mid (there.place.0 - 8) (headers.Movable there.length 0 owner slot) → new ≡ overwritten mid slot (u32_bytes there.place.0)
     → Alters old new (there.place.0 - 8) (with_name owner slot) × WritesPlain old new × KeepsFree Any old new
 named_there {old} {mid} {new} there {owner} {slot} h one is_fixed s empty mid_is header new_is =
@@ -117,8 +117,7 @@ named_there {old} {mid} {new} there {owner} {slot} h one is_fixed s empty mid_is
       by_chunk live (free size) f count lock_is = absurd f.named
       by_chunk live (movable bytes lock holder named) f count lock_is =
           let s : Spelled old at (movable bytes lock holder named) = finds_spelled _ _ _ _ _ h f in
-          let fits = s.2 in
-          let e : lock ≡ live.lock = ap (λ (x : LiveChunk). x.lock) f.named.1 in
+          let fits = s.2 in let e : lock ≡ live.lock = ap (λ (x : LiveChunk). x.lock) f.named.1 in
           absurd (omega (arith, is_fixed, lock_is))
       by_chunk live (fixed bytes holder) f count lock_is =
           let same = count ∙ ap (λ x. length x.bytes) (sym (fixed_live_is at _ _ f.named)) in
@@ -131,18 +130,15 @@ pub named_writable : {image : List ℕ} (there : Found) {slot : ℕ} → HeapAcc
 named_writable there h one s =
     let inside = found_inside _ there h one in
     let m = middle_of _ one.finds.before (one.chunk ∷ []) one.finds.after _ (heap_in_parts _ _ h one.finds.chunks) one.finds.there in
-    let whole = m.start_whole in
-    let facts = slot_facts _ _ _ h.1.tiles s in
+    let whole = m.start_whole in let facts = slot_facts _ _ _ h.1.tiles s in
     let slot_inside = facts.inside in let four = facts.whole in
     (omega arith, omega arith, omega arith)
 
 -- the header leaves the table where it is
 pub header_table : {old mid : List ℕ} (there : Found) (owner : ℕ) {slot : ℕ} → HeapAccepted old → IsOne old there → IsSlot old slot → mid ≡ overwritten old (there.place.0 - 8) (live_words there.length 0 owner (h_offset_to (there.place.0 - 8) slot)) → TablesLie mid × IsSlot mid slot
 header_table {old} {mid} there owner {slot} h one s mid_is =
-    let inside = found_inside _ there h one in
-    let f = one.finds in
-    let at : ℕ = there.place.0 - 8 in
-    let heap = heap_in_parts _ _ h f.chunks in
+    let inside = found_inside _ there h one in let f = one.finds in
+    let at : ℕ = there.place.0 - 8 in let heap = heap_in_parts _ _ h f.chunks in
     let none = named_hold_none _ f.before one.chunk [] f.after there.name.0 one.live heap (rw f.there at f.named) tt in
     let least = (Spelled-size old at one.chunk (finds_spelled _ _ _ _ _ h f)).0 in
     let w = wrote_words old _ at there.length 0 owner (h_offset_to at slot) inside mid_is in
@@ -150,7 +146,8 @@ header_table {old} {mid} there owner {slot} h one s mid_is =
 
 -- ---- bytes are copied
 
-found_bytes : {image : List ℕ} (found : Found) → HeapAccepted image → (f : IsOne image found) → slice_range image found.place.0 (found.place.0 + found.length) ≡ f.live.bytes
+found_bytes : {image : List ℕ} (found : Found) → HeapAccepted image → (f : IsOne image found)
+    → slice_range image found.place.0 (found.place.0 + found.length) ≡ f.live.bytes
 found_bytes {image} found h f =
     let body : found.place.0 - 8 + 8 ≡ found.place.0 = omega arith in
     ap (λ n. slice_range image found.place.0 (found.place.0 + n)) f.count ∙ ap (λ n. slice_range image n (n + length f.live.bytes)) (sym body) ∙ (finds_body _ _ _ _ _ h f.finds).bytes
@@ -158,8 +155,7 @@ found_bytes {image} found h f =
 -- the first of them
 first_bytes : (image : List ℕ) {bytes : List ℕ} (at : ℕ) {all n : ℕ} (most : ℕ) → slice_range image at (at + all) ≡ bytes → length bytes ≡ all → n ≡ min all most → slice_range image at (at + n) ≡ take most bytes
 first_bytes image {bytes} at {all} {n} most e len is =
-    let some : at + n - at ≡ n = omega arith in
-    let whole : at + all - at ≡ all = omega arith in
+    let some : at + n - at ≡ n = omega arith in let whole : at + all - at ≡ all = omega arith in
     let read = ap (λ k. take k (drop at image)) (sym whole) ∙ e in
     let fewer : n ≤ all = omega arith in
     ap (λ k. take k (drop at image)) some ∙ sym (take-take n all _ fewer) ∙ ap (take n) read ∙ elim (cases_lt most all) [
@@ -238,8 +234,7 @@ relocated_found {s0} s1 s2 s3 s4 found {there} {at} {size} count h f unlocked r 
 
   of_movable : (bytes : List ℕ) (lock owner slot : ℕ) (g : Finds s0 found.name.0 f.live (movable bytes lock owner slot) (found.place.0 - 8)) → Relocates s0 s4 (found.place.0 - 8) at size (movable (sized_to bytes count) lock owner slot)
   of_movable bytes lock owner slot g =
-      let zeros : List ℕ = replicate count 0 in
-      let part : List ℕ = take count again.live.bytes in
+      let zeros : List ℕ = replicate count 0 in let part : List ℕ = take count again.live.bytes in
       let d : Chunk = movable (sized_to bytes count) lock owner slot in
       let many : length (replicate {A = ℕ} count 0) ≡ count = length-replicate count 0 in
       let sized : length (sized_to bytes count) ≡ count = length-sized_to bytes count in
@@ -271,15 +266,13 @@ owner_fits {image} found h f = by_chunk f.live f.chunk f.finds f.owner_is where
   by_chunk : (live : LiveChunk) (c : Chunk) (g : Finds image found.name.0 live c (found.place.0 - 8)) → found.owner ≡ live.owner → found.owner ≤ data_owner
   by_chunk live (free n) g is = absurd g.named
   by_chunk live (movable bytes lock owner slot) g is =
-      let s = finds_spelled _ _ _ _ _ h g in
-      let fits : owner < 16 = s.1.owner_fits in
+      let s = finds_spelled _ _ _ _ _ h g in let fits : owner < 16 = s.1.owner_fits in
       let same : owner ≡ live.owner = ap (λ (x : LiveChunk). x.owner) g.named.1 in
       omega arith
   by_chunk live (fixed bytes owner) g is =
       let s : Spelled image (found.place.0 - 8) (fixed bytes owner) = finds_spelled _ _ _ _ _ h g in
       let fits : owner < 16 = s.owner_fits in
-      let same = ap (λ (x : LiveChunk). x.owner) (fixed_live_is _ _ _ g.named) in
-      omega arith
+      let same = ap (λ (x : LiveChunk). x.owner) (fixed_live_is _ _ _ g.named) in omega arith
 
 -- ---- a run that had the room
 

@@ -10,13 +10,15 @@ same_live : {x y : LiveChunk} → Some x ≡ Some y → x ≡ y
 same_live e = cc
 
 -- a chunk without locks is loose, and a loose one has none
-pub is_loose : {image : List ℕ} (found : Found) → HeapAccepted image → IsOne image found → found.lock ≡ 0 → IsLoose image found.name.0
+pub is_loose : {image : List ℕ} (found : Found) → HeapAccepted image → IsOne image found
+    → found.lock ≡ 0 → IsLoose image found.name.0
 is_loose found h f none = record { live = f.live; is_held = one_held _ _ h f; unlocked = sym f.lock_is ∙ none }
 
 pub loose_there : {image : List ℕ} {name : ℕ} → IsLoose image name → IsSome (held image name)
 loose_there l = subst (λ (x : Option LiveChunk). IsSome x) (sym l.is_held) refl
 
-pub loose_lock : {image : List ℕ} {name : ℕ} {found : Found} → HeapAccepted image → IsLoose image name → IsFound image name found → found.lock ≡ 0
+pub loose_lock : {image : List ℕ} {name : ℕ} {found : Found} → HeapAccepted image
+    → IsLoose image name → IsFound image name found → found.lock ≡ 0
 loose_lock h l f = f.lock_is ∙ ap (λ x. x.lock) (same_live (sym (name_held _ _ _ h f) ∙ l.is_held)) ∙ l.unlocked
 
 -- ---- one name has changed
@@ -68,15 +70,18 @@ pub moved_resized : {old : List ℕ} (new : List ℕ) (found : Found) (count : �
 moved_resized new found count true h f unlocked has none moved = run_resized h f unlocked moved
 moved_resized new found count false h f unlocked has none moved = absurd (has none)
 
-pub run_not_short : {old new : List ℕ} {found : Found} {count : ℕ} → RelocatesToRun old new found count → ShortFor old found.name.0 (need count) → ⊥
+pub run_not_short : {old new : List ℕ} {found : Found} {count : ℕ}
+    → RelocatesToRun old new found count → ShortFor old found.name.0 (need count) → ⊥
 run_not_short r = spot_not_short_for _ _ _ _ _ (omega arith) r.room r.enough
 
 -- ---- a stretch has slid before
 
-pub loose_slid : {old new : List ℕ} {name : ℕ} → HeapAccepted old → SlidesOneStretch old new → IsLoose old name → IsLoose new name
+pub loose_slid : {old new : List ℕ} {name : ℕ} → HeapAccepted old → SlidesOneStretch old new
+    → IsLoose old name → IsLoose new name
 loose_slid {name} h s l = record { live = l.live; is_held = (slides_alike _ _ h s).holds name ∙ l.is_held; unlocked = l.unlocked }
 
-pub slid_then : {old mid : List ℕ} (new : List ℕ) (name count : ℕ) → HeapAccepted old → SlidesOneStretch old mid → Resized mid new name count → Resized old new name count
+pub slid_then : {old mid : List ℕ} (new : List ℕ) (name count : ℕ) → HeapAccepted old
+    → SlidesOneStretch old mid → Resized mid new name count → Resized old new name count
 slid_then {old} {mid} new name count h s r =
     let alike = slides_alike _ _ h s in
     record {
@@ -90,10 +95,10 @@ slid_then {old} {mid} new name count h s r =
       some_held x live e = subst (λ (y : Option LiveChunk). IsSome y) (sym e) refl
 
 -- the chunk alone moves, and others of the stretch that slid before
-pub slid_alone : {old mid : List ℕ} (new : List ℕ) (name : ℕ) → HeapAccepted old → SlidesOneStretch old mid → MovesAlone mid new name → MovesOneStretchAnd old new name
+pub slid_alone : {old mid : List ℕ} (new : List ℕ) (name : ℕ) → HeapAccepted old
+    → SlidesOneStretch old mid → MovesAlone mid new name → MovesOneStretchAnd old new name
 slid_alone {mid} new name h s alone =
-    let alike = slides_alike _ _ h s in
-    let one = slides_move_one _ _ s in
+    let alike = slides_alike _ _ h s in let one = slides_move_one _ _ s in
     record {
       before = one.before;
       mid = one.mid;
@@ -123,8 +128,7 @@ fits_opened new {found} h f k o live e =
 pub room_among_own : {image : List ℕ} (found : Found) {stretch : Stretch} {room : ℕ} → (a : IsFoundAmong image found stretch) → HasRoomOf image stretch room → room ≡ room_of (a.front ++ a.back)
 room_among_own found a r =
     let is = r a.before (a.front ++ movable a.bytes 0 a.owner found.name.0 ∷ a.back) a.after a.is in
-    let own = room_of-middle a.front (movable a.bytes 0 a.owner found.name.0) a.back in
-    omega arith
+    let own = room_of-middle a.front (movable a.bytes 0 a.owner found.name.0) a.back in omega arith
 
 pub fits_in_stretch : {image : List ℕ} (found : Found) {stretch : Stretch} {room : ℕ} (size : ℕ) → IsFoundAmong image found stretch → HasRoomOf image stretch room → size ≤ need found.length + room → FitsInStretch image found size
 fits_in_stretch found size a r enough =
@@ -132,11 +136,11 @@ fits_in_stretch found size a r enough =
     let many : need found.length ≡ need (length a.bytes) = ap need a.many in
     record { before = a.before; front = a.front; bytes = a.bytes; owner = a.owner; back = a.back; after = _; whole = a.is.whole; there = a.there; many = a.many; enough = omega arith }
 
-pub fits_not_short : {image : List ℕ} {found : Found} {size : ℕ} → HeapAccepted image → FitsInStretch image found size → ShortFor image found.name.0 size → ⊥
+pub fits_not_short : {image : List ℕ} {found : Found} {size : ℕ} → HeapAccepted image
+    → FitsInStretch image found size → ShortFor image found.name.0 size → ⊥
 fits_not_short {size} h k short =
     let low = ((short_for_parts _ _ _ _ _ _ _ _ size h k.whole).0 short).1 in
-    let enough = k.enough in
-    omega arith
+    let enough = k.enough in omega arith
 
 -- where the own stretch has less the image is short for the chunk exactly where it is short
 pub short_own : {image : List ℕ} (found : Found) {stretch : Stretch} {room : ℕ} (size : ℕ) → HeapAccepted image → IsFoundAmong image found stretch → HasRoomOf image stretch room → need found.length + room < size → ShortFor image found.name.0 size ↔ Short image size
@@ -159,7 +163,8 @@ resized_named new count f done fits = resized_here new count f (done (one_of f) 
 pub own_fits : {image : List ℕ} (found : Found) → HeapAccepted image → IsOne image found → need found.length ≤ 16777208
 own_fits found h f = let inside = found_inside _ found h f in omega (arith, h.1.tiles.head.most)
 
-pub room_fits : {image : List ℕ} (found : Found) {stretch : Stretch} {room : ℕ} → HeapAccepted image → (a : IsFoundAmong image found stretch) → HasRoomOf image stretch room → room ≤ 16777208
+pub room_fits : {image : List ℕ} (found : Found) {stretch : Stretch} {room : ℕ} → HeapAccepted image
+    → (a : IsFoundAmong image found stretch) → HasRoomOf image stretch room → room ≤ 16777208
 room_fits found h a r =
     let mid : List Chunk = a.front ++ movable a.bytes 0 a.owner found.name.0 ∷ a.back in
     let m = middle_of _ a.before mid a.after _ (heap_in_parts _ _ h a.is.whole.chunks) a.is.from in

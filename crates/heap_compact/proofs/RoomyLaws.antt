@@ -7,7 +7,8 @@ use Rattle.heap_compact.proofs.SeenLaws.{header_stay, seen_more, seen_closed, be
 -- ---- rooms of lists
 
 -- one run, where it has a chunk
-short_run : (size : ℕ) (run : List Chunk) → room_of run < size → All (λ room. room < size) (rooms_of (filter has_chunk (run ∷ [])))
+short_run : (size : ℕ) (run : List Chunk) → room_of run < size
+    → All (λ room. room < size) (rooms_of (filter has_chunk (run ∷ [])))
 short_run size [] low = All-nil (λ room. room < size)
 short_run size (c ∷ run) low = All-cons (λ room. room < size) (room_of (c ∷ run)) [] low (All-nil (λ room. room < size))
 
@@ -31,7 +32,8 @@ stay_alone (fixed bytes owner) s = refl
 
 -- ---- the search
 
-pub rooms_start : {image : List ℕ} (size : ℕ) {start : ℕ} → HeapAccepted image → start ≡ area_start image → SeenRooms image size start start 0
+pub rooms_start : {image : List ℕ} (size : ℕ) {start : ℕ} → HeapAccepted image
+    → start ≡ area_start image → SeenRooms image size start start 0
 rooms_start size h e =
     let fits = h.1.tiles.head.a_chunk_fits in
     record {
@@ -88,7 +90,8 @@ module _ {image : List ℕ} {size start here room : ℕ} (r : SeenRooms image si
       enough = omega (arith, enough, r.room_is);
     }
 
-    pub room_found : {header : Header} → HasHeader image here header → HeaderStays header → size ≤ room → HasRoom image size (record { start = start; end = here })
+    pub room_found : {header : Header} → HasHeader image here header → HeaderStays header
+        → size ≤ room → HasRoom image size (record { start = start; end = here })
     room_found f stay enough =
         roomy enough (begins_there image here f.chunk others.0 others.2 f.spelled (header_stay f.chunk (subst HeaderStays f.header_is stay)))
 
@@ -102,5 +105,6 @@ module _ {image : List ℕ} {size start here room : ℕ} (r : SeenRooms image si
         subst (λ (cs : List Chunk). All (λ other. other < size) (rooms_of (stretches cs))) (sym all)
         (short_behind size closed run [] [] r.seen.ends r.seen.none_stays refl refl r.short (omega (arith, r.room_is, low)))
 
-pub room_stretch : {image : List ℕ} {size : ℕ} {stretch : Stretch} → HasRoom image size stretch → IsStretch image stretch
+pub room_stretch : {image : List ℕ} {size : ℕ} {stretch : Stretch} → HasRoom image size stretch
+    → IsStretch image stretch
 room_stretch r = record { before = r.before; mid = r.mid; after = r.after; is = r.is }

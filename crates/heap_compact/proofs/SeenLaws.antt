@@ -4,7 +4,8 @@ use Rattle.laws_heap.proofs.FixedNames.{fixed_live_is}
 
 -- ---- the chunk that was found
 
-pub unlocked : (image : List ℕ) (found : Found) → IsOne image found → found.lock ≡ 0 → IsUnlocked image (found.place.0 - 8) found.name.0 found.length
+pub unlocked : (image : List ℕ) (found : Found) → IsOne image found → found.lock ≡ 0
+    → IsUnlocked image (found.place.0 - 8) found.name.0 found.length
 unlocked image found f none = of_chunk f.chunk f.finds.named f.finds.chunks where
   of_chunk : (c : Chunk) → NamedHere found.name.0 f.live (found.place.0 - 8) c → chunks_of image ≡ f.finds.before ++ c ∷ f.finds.after → IsUnlocked image (found.place.0 - 8) found.name.0 found.length
   of_chunk (free size) named chunks = absurd named
@@ -47,15 +48,18 @@ unlocked_there {image} {name} h u =
     let parts = SpelledAll-split image (area_start image) u.before (movable u.bytes 0 u.owner name ∷ u.after) (length image) heap.tiles.area in
     (rw (← u.there) at parts.0, rw (← u.there) at parts.1.0)
 
-pub seen_start : {image : List ℕ} {at name count start : ℕ} → HeapAccepted image → IsUnlocked image at name count → start ≡ area_start image → SeenUpTo image at start start
+pub seen_start : {image : List ℕ} {at name count start : ℕ} → HeapAccepted image
+    → IsUnlocked image at name count → start ≡ area_start image → SeenUpTo image at start start
 seen_start h u e =
     let fits = h.1.tiles.head.a_chunk_fits in
     record { closed = []; run = []; spelled = sym e; none_stays = tt; ends = tt; from = omega (arith, e); low = omega (arith, u.there, e); inside = omega (arith, fits, e) }
 
-pub seen_chunk : {image : List ℕ} {at start here : ℕ} → HeapAccepted image → SeenUpTo image at start here → here < length image → (c : Chunk) × Spelled image here c
+pub seen_chunk : {image : List ℕ} {at start here : ℕ} → HeapAccepted image
+    → SeenUpTo image at start here → here < length image → (c : Chunk) × Spelled image here c
 seen_chunk {here} h s more = chunk_there _ _ (s.closed ++ s.run) here h.1.tiles s.spelled more
 
-pub seen_size : {image : List ℕ} {here size : ℕ} {header : Header} → HasHeader image here header → size ≡ size_by header → (8 ≤ size) × (here + size ≤ length image)
+pub seen_size : {image : List ℕ} {here size : ℕ} {header : Header} → HasHeader image here header
+    → size ≡ size_by header → (8 ≤ size) × (here + size ≤ length image)
 seen_size {image} {here} f e =
     let s = Spelled-size image here f.chunk f.spelled in
     let same = e ∙ ap size_by f.header_is ∙ size_by-header_of f.chunk in
@@ -113,11 +117,13 @@ pub begins_there : (image : List ℕ) (here : ℕ) (c : Chunk) (after : List Chu
 begins_there image here c [] s p stay = tt
 begins_there image here c (d ∷ after) s p stay = rw (Spelled-unique image here c d p s.0) at stay
 
-pub nothing_after : (image : List ℕ) (here : ℕ) (after : List Chunk) → SpelledAll image here after (length image) → length image ≤ here → after ≡ []
+pub nothing_after : (image : List ℕ) (here : ℕ) (after : List Chunk)
+    → SpelledAll image here after (length image) → length image ≤ here → after ≡ []
 nothing_after image here [] s past = refl
 nothing_after image here (d ∷ after) s past = let size = Spelled-size _ here d s.0 in absurd (omega (arith, size.0, size.1, past))
 
-pub none_there : (image : List ℕ) (here : ℕ) (after : List Chunk) → SpelledAll image here after (length image) → length image ≤ here → BeginsStaying after
+pub none_there : (image : List ℕ) (here : ℕ) (after : List Chunk)
+    → SpelledAll image here after (length image) → length image ≤ here → BeginsStaying after
 none_there image here after s past = subst BeginsStaying (sym (nothing_after _ here _ s past)) tt
 
 module _ {image : List ℕ} {at name count start here : ℕ} (h : HeapAccepted image) (u : IsUnlocked image at name count) (s : SeenUpTo image at start here) where
@@ -126,20 +132,20 @@ module _ {image : List ℕ} {at name count start here : ℕ} (h : HeapAccepted i
   abbrev v : Chunk
   v = movable u.bytes 0 u.owner name
 
-  pub seen_stay : {size : ℕ} {header : Header} → HasHeader image here header → size ≡ size_by header → HeaderStays header → here ≤ at → SeenUpTo image at (here + size) (here + size)
+  pub seen_stay : {size : ℕ} {header : Header} → HasHeader image here header → size ≡ size_by header
+      → HeaderStays header → here ≤ at → SeenUpTo image at (here + size) (here + size)
   seen_stay {size} {header} f e stay low =
       let same : size ≡ size_of f.chunk = e ∙ ap size_by f.header_is ∙ size_by-header_of f.chunk in
       let stay_c = header_stay f.chunk (subst HeaderStays f.header_is stay) in
-      let t = unlocked_there h u in
-      let rest = SpelledAll-rest _ _ _ _ here at s.spelled t.0 low in
+      let t = unlocked_there h u in let rest = SpelledAll-rest _ _ _ _ here at s.spelled t.0 low in
       let fits = ends_before image here at f.chunk v rest.0 rest.2 f.spelled t.1 stay_c (λ k. cc) in
       seen_closed image at at start here size header s f e stay (omega (arith, fits, same))
 
   -- the run has the chunk, with some in front of it and some after it
-  around : (after : List Chunk) → at < here → chunks_of image ≡ (closed ++ run) ++ after → BeginsStaying after → IsAmongAt image at name count (record { start = start; end = here })
+  around : (after : List Chunk) → at < here → chunks_of image ≡ (closed ++ run) ++ after
+      → BeginsStaying after → IsAmongAt image at name count (record { start = start; end = here })
   around after low chunks begins =
-      let begin : ℕ = area_start image + total closed in
-      let t = unlocked_there h u in
+      let begin : ℕ = area_start image + total closed in let t = unlocked_there h u in
       let parts = SpelledAll-split image (area_start image) closed run here s.spelled in
       let front = SpelledAll-rest image (area_start image) closed u.before begin at parts.0 t.0 (omega (arith, s.from, s.low)) in
       let rest = SpelledAll-rest image begin front.0 run at here front.2 parts.1 (omega (arith, low)) in
@@ -163,7 +169,8 @@ module _ {image : List ℕ} {at name count start here : ℕ} (h : HeapAccepted i
   others : (after : List Chunk) × (chunks_of image ≡ (closed ++ run) ++ after) × SpelledAll image here after (length image)
   others = chunks_after _ _ (closed ++ run) here h.1.tiles s.spelled s.inside
 
-  pub seen_found : {header : _} → HasHeader image here header → HeaderStays header → at < here → IsAmongAt image at name count (record { start = start; end = here })
+  pub seen_found : {header : _} → HasHeader image here header → HeaderStays header → at < here
+      → IsAmongAt image at name count (record { start = start; end = here })
   seen_found f stay low =
       around _ low others.1 (begins_there _ here _ _ others.2 f.spelled (header_stay _ (subst HeaderStays f.header_is stay)))
 

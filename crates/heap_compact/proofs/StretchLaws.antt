@@ -1,5 +1,5 @@
 -- A stretch can be packed, and then its room can be opened after one of its chunks.
-use Rattle.heap_compact.proofs.Words.{◌≡◌, ℕ, zero, suc, ◌+◌, ◌-◌, ◌<◌, ◌≤◌, List, [], ◌∷◌, ◌++◌, length, refl, sym, ap, subst, ◌∙◌, append_assoc, arith, append-nil, sum_by-cons, u32_at, Chunk, free, movable, fixed, need, total, free_size, IsSlot, area_start, Memory, HoldsHeap, BodyHere, IsHeap, HeapAccepted, chunks_of, NoneStays, stays_put, room_of, SameFrame, Becomes, gap, merged, IsRoom, WritesPlain, packed, lives, EndsStaying, WholeStretch, opened, OpensBehind, Stretch, HasFreeBehind, BecomesExactly, IsRun, Packs, LeavesLastRoom, last_room, KeepsApart, StretchIs, IsStretch, IsAmongAt, HasRoomOf, OpensExactly, IsTrue, total-append, SpelledAll-split, SpelledAll-end, AnyPlaced-mid, gap_free, gap_total, lives-append, lives_total, lives_twice, none_stays-append, stretch_packed, room_of-middle, one_stretch, heap_in_parts}
+use Rattle.heap_compact.proofs.Words.{◌≡◌, ℕ, zero, suc, ◌+◌, ◌-◌, ◌<◌, ◌≤◌, List, [], ◌∷◌, ◌++◌, length, refl, sym, ap, subst, ◌∙◌, append_assoc, arith, append-nil, sum_by-cons, u32_at, Chunk, free, movable, fixed, need, total, free_size, IsSlot, area_start, Memory, HoldsHeap, IsHeap, HeapAccepted, chunks_of, NoneStays, stays_put, room_of, SameFrame, gap, merged, IsRoom, WritesPlain, packed, lives, EndsStaying, WholeStretch, opened, OpensBehind, Stretch, HasFreeBehind, BecomesExactly, IsRun, Packs, LeavesLastRoom, last_room, KeepsApart, StretchIs, IsStretch, IsAmongAt, HasRoomOf, OpensExactly, IsTrue, total-append, SpelledAll-split, SpelledAll-end, AnyPlaced-mid, gap_free, gap_total, lives-append, lives_total, lives_twice, none_stays-append, stretch_packed, room_of-middle, one_stretch, heap_in_parts}
 use Rattle.laws_heap.proofs.Layouts.{IsNotFree}
 use Rattle.heap_compact.proofs.ExactLaws.{exactly_start, exactly_becomes, exactly_then}
 use Rattle.heap_place.proofs.RoomLaws.{live_keeps}
@@ -7,11 +7,13 @@ use Rattle.heap_compact.proofs.DropLaws.{gap_some, gap_none}
 
 -- ---- a stretch is packed
 
-abbrev pub stretch_run : {image : List ℕ} {before mid after : List Chunk} {stretch : Stretch} → StretchIs image before mid after stretch → IsRun image stretch.start stretch.end
+abbrev pub stretch_run : {image : List ℕ} {before mid after : List Chunk} {stretch : Stretch}
+    → StretchIs image before mid after stretch → IsRun image stretch.start stretch.end
 stretch_run {before} {mid} {after} s = record { before = before; mid = mid; after = _; chunks = s.whole.chunks; from = s.from; to = s.to }
 
 -- of a chunk that is among its own
-pub among_stretch : {image : List ℕ} {at name count : ℕ} {stretch : Stretch} → IsAmongAt image at name count stretch → IsStretch image stretch
+pub among_stretch : {image : List ℕ} {at name count : ℕ} {stretch : Stretch}
+    → IsAmongAt image at name count stretch → IsStretch image stretch
 among_stretch {name} a = record { before = a.before; mid = a.front ++ movable a.bytes 0 a.owner name ∷ a.back; after = _; is = a.is }
 
 -- all room of chunks of which none stays is at their end
@@ -30,7 +32,8 @@ last_loose room (movable bytes (suc count) owner slot ∷ cs) n = absurd n
 last_loose room (fixed bytes owner ∷ cs) n = absurd n
 
 -- the room that is left of a stretch
-pub room_left : {image : List ℕ} (stretch : Stretch) {room : ℕ} → LeavesLastRoom image stretch.start stretch.end room → HasRoomOf image stretch room
+pub room_left : {image : List ℕ} (stretch : Stretch) {room : ℕ}
+    → LeavesLastRoom image stretch.start stretch.end room → HasRoomOf image stretch room
 room_left stretch leaves before mid after s =
     omega (arith, leaves (stretch_run s), last_loose 0 mid s.whole.none_stays)
 
@@ -40,7 +43,8 @@ stay_live (free size) stay = cc
 stay_live (movable bytes lock owner slot) stay = tt
 stay_live (fixed bytes owner) stay = tt
 
-end_split : (c : Chunk) (cs : List Chunk) → EndsStaying (c ∷ cs) → (front : List Chunk) × (last : Chunk) × (c ∷ cs ≡ front ++ last ∷ []) × IsNotFree last
+end_split : (c : Chunk) (cs : List Chunk) → EndsStaying (c ∷ cs)
+    → (front : List Chunk) × (last : Chunk) × (c ∷ cs ≡ front ++ last ∷ []) × IsNotFree last
 end_split c [] stay = ([], c, refl, stay_live c stay)
 end_split c (d ∷ cs) stay = let e = end_split d cs stay in (c ∷ e.0, e.1, ap (λ xs. c ∷ xs) e.2, e.3)
 
@@ -82,18 +86,19 @@ regroup before xs ys after v f =
     ap (λ cs. before ++ cs) (append_assoc (xs ++ v ∷ ys) (f ∷ []) after ∙ append_assoc xs (v ∷ ys) (f ∷ after) ∙ sym (append_assoc xs (v ∷ []) (ys ++ f ∷ after)))
     ∙ sym (append_assoc before (xs ++ v ∷ []) (ys ++ f ∷ after))
 
-regroup_open : (before xs ys after : List Chunk) (v f : Chunk) → (before ++ (xs ++ v ∷ [])) ++ f ∷ (ys ++ after) ≡ before ++ ((xs ++ v ∷ f ∷ ys) ++ after)
+regroup_open : (before xs ys after : List Chunk) (v f : Chunk)
+    → (before ++ (xs ++ v ∷ [])) ++ f ∷ (ys ++ after) ≡ before ++ ((xs ++ v ∷ f ∷ ys) ++ after)
 regroup_open before xs ys after v f =
     append_assoc before (xs ++ v ∷ []) (f ∷ (ys ++ after)) ∙ ap (λ cs. before ++ cs) (append_assoc xs (v ∷ []) (f ∷ (ys ++ after)) ∙ sym (append_assoc xs (v ∷ f ∷ ys) after))
 
-regroup_around : (before xs ys gaps after : List Chunk) (v : Chunk) → before ++ (((xs ++ v ∷ ys) ++ gaps) ++ after) ≡ (before ++ xs) ++ v ∷ (ys ++ (gaps ++ after))
+regroup_around : (before xs ys gaps after : List Chunk) (v : Chunk)
+    → before ++ (((xs ++ v ∷ ys) ++ gaps) ++ after) ≡ (before ++ xs) ++ v ∷ (ys ++ (gaps ++ after))
 regroup_around before xs ys gaps after v =
     ap (λ cs. before ++ cs) (append_assoc (xs ++ v ∷ ys) gaps after ∙ append_assoc xs (v ∷ ys) (gaps ++ after)) ∙ sym (append_assoc before xs (v ∷ (ys ++ (gaps ++ after))))
 
 opened_alike : {before front : List Chunk} (c : Chunk) (back : List Chunk) {after others fore : List Chunk} (d : Chunk) (rear : List Chunk) {later : List Chunk} → before ≡ others → front ≡ fore → c ∷ back ≡ d ∷ rear → after ≡ later → others ++ (opened fore d rear ++ later) ≡ before ++ (opened front c back ++ after)
 opened_alike c back d rear e f g k =
-    let one : c ≡ d = cc in
-    let rest : back ≡ rear = cc in
+    let one : c ≡ d = cc in let rest : back ≡ rear = cc in
     rw (e, f, one, rest, k) refl
 
 -- ---- room is opened in a packed stretch
@@ -186,10 +191,10 @@ module _ {old mid : List ℕ} {at name count : ℕ} {stretch : Stretch} {room : 
   numbers =
       record { behind_header = omega (arith, place_is); inside = omega (arith, place_is, ends, ap need a.many); within = omega (arith, ends); most = omega (arith, inside, h.1.tiles.head.most); from = omega (arith, place_is) }
 
-  abbrev pub room_behind : (start : ℕ) → 0 < room → start ≡ u32_at mid name - 8 + need count → HasFreeBehind mid start (stretch.end - room) room
+  abbrev pub room_behind : (start : ℕ) → 0 < room → start ≡ u32_at mid name - 8 + need count
+      → HasFreeBehind mid start (stretch.end - room) room
   room_behind start some start_is =
-      let many = ap need a.many in
-      let one = total-append a.before (fore ++ v ∷ []) in
+      let many = ap need a.many in let one = total-append a.before (fore ++ v ∷ []) in
       let two = total-append fore (v ∷ []) in
       record {
         before = a.before ++ (fore ++ v ∷ []);
@@ -209,7 +214,8 @@ module _ {old mid : List ℕ} {at name count : ℕ} {stretch : Stretch} {room : 
     pub frame : SameFrame old new
     pub plain : WritesPlain old new
 
-  whole_opened : (new : List ℕ) → BecomesExactly old new (a.before ++ (opened a.front v a.back ++ a.after)) → OpensRoom new
+  whole_opened : (new : List ℕ)
+      → BecomesExactly old new (a.before ++ (opened a.front v a.back ++ a.after)) → OpensRoom new
   whole_opened new b = record {
     opened_behind = λ before front bytes owner slot back after whole there. rw (parts before front bytes owner slot back after whole there) at (exactly_becomes b);
     exact = λ before front bytes owner slot back after whole there. b.exact ∙ parts before front bytes owner slot back after whole there;

@@ -1,5 +1,5 @@
 -- The chunk grows in its own stretch, moves to another that was packed, or no stretch has the room.
-use Rattle.heap_compact.proofs.Words.{◌≡◌, ℕ, sym, subst, arith, Short, MovesOneStretchAnd, Memory, need, short_for_beyond, room_spot, spot_is_run}
+use Rattle.heap_compact.proofs.Words.{◌≡◌, ℕ, sym, subst, arith, Short, MovesOneStretchAnd, need, short_for_beyond, room_spot, spot_is_run}
 use Rattle.laws_heap.proofs.Unmoved.{itself_alone}
 use Rattle.heap_compact.proofs.ResizedLaws.{is_loose, loose_slid, slid_then, slid_alone, fits_in_stretch, fits_not_short, short_own, own_fits, room_fits}
 use Rattle.heap_compact.proofs.growing.resize_by_packing.Goals as goal
@@ -59,7 +59,6 @@ returns-in-None-room_by_packing-clause-one_stretch c =
 
 pub relocate_named-requires-clause-has_run : goal.relocate_named-requires-clause-has_run
 relocate_named-requires-clause-has_run c =
-    let same = c.in-Some.ensures.1 in
-    let enough = c.in-Some-room_by_packing.ensures.enough in
+    let same = c.in-Some.ensures.1 in let enough = c.in-Some-room_by_packing.ensures.enough in
     let room = c.in-Some-room_by_packing.field-0 in
     spot_is_run _ _ _ _ (room_spot _ _ _ c.in-Some-room_by_packing.ensures.room) (omega arith)

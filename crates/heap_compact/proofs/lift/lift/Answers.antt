@@ -1,5 +1,5 @@
 -- The bytes go up in one slide, the free chunk's header is written, and then each chunk is mended.
-use Rattle.heap_compact.proofs.Words.{◌-◌, [], arith, ◌∙◌, part_within, table_within, same_bytes, same_lents}
+use Rattle.heap_compact.proofs.Words.{[], arith, ◌∙◌, part_within, table_within, same_bytes, same_lents}
 use Rattle.heap_compact.proofs.CopyLaws.{lift_bounds, carried_up}
 use Rattle.heap_compact.proofs.LiftLaws.{lift_done}
 use Rattle.heap_compact.proofs.LentLifts.{lifted_within, lifted_holds, table_still}
@@ -29,8 +29,7 @@ overflow_add-end c =
 
 pub mend-requires : goal.mend-requires
 mend-requires c =
-    let b = c.requires.behind in
-    let up = (lift_bounds c.requires.heap.accepted b).up in
+    let b = c.requires.behind in let up = (lift_bounds c.requires.heap.accepted b).up in
     let lifting = carried_up c.requires.heap.accepted b c.slide.ensures.bytes (same_bytes c.write.ensures.after) c.write.ensures.spelled in
     let same = same_lents c.write.ensures.after ∙ c.slide.ensures.lent in
     record {

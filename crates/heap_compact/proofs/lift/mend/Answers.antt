@@ -1,6 +1,5 @@
 -- A walk over the lifted chunks mends one at each step.
-use Rattle.heap_compact.proofs.Words.{◌-◌, refl, sym, subst, ◌∙◌, arith, Lent, Misses}
-use Rattle.std.specs.Prelude.{List}
+use Rattle.heap_compact.proofs.Words.{refl, ◌∙◌, arith}
 use Rattle.heap_compact.proofs.LiftedWalkLaws.{walk_start, walk_more, walk_state, walk_next, walk_on, walk_done}
 use Rattle.heap_compact.proofs.LentLifts.{walk_table, walk_misses}
 use Rattle.heap_compact.proofs.lift.mend.Goals as goal

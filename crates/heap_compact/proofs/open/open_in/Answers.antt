@@ -71,8 +71,7 @@ returns-then-room-gt0 c =
 pub returns-else-room-gt0 : goal.returns-else-room-gt0
 returns-else-room-gt0 c =
     let p = (goal.at.returns-else-room-gt0 c).After-pack-room in
-    let o = opened_none (packed p) (omega arith) in
-    let last = c.pack-room.ensures in
+    let o = opened_none (packed p) (omega arith) in let last = c.pack-room.ensures in
     record { lists = last.lists; opened = o.opened_behind; exact = o.exact; frame = o.frame; plain = o.plain; out = last.out; few = omega (arith, slid_few p, last.slid); heap = last.heap }
 
 pub push_alone-requires-clause-free : goal.push_alone-requires-clause-free

@@ -1,5 +1,5 @@
 -- The chunk is slid down, and its second word, its slot and the room's header are written.
-use Rattle.heap_compact.proofs.Words.{◌-◌, ◌∙◌, refl, arith, slot_still_within, IsDroppable, same_bytes, same_lents, ℕ, ◌+◌, ◌≡◌, subst, IsWithin}
+use Rattle.heap_compact.proofs.Words.{◌-◌, ◌∙◌, refl, arith, slot_still_within, IsDroppable, same_bytes, same_lents, ◌+◌, ◌≡◌}
 use Rattle.heap_compact.proofs.DropLaws.{DropFacts, drop_facts, drop_table, all_dropped}
 use Rattle.heap_compact.proofs.LentRuns.{dropped_within, dropped_holds}
 use Rattle.heap_compact.proofs.MemoryLaws.{same_slid, within_misses}
@@ -18,8 +18,7 @@ slide_down-requires c =
 pub put_slot-requires : goal.put_slot-requires
 put_slot-requires c =
     let f = facts (goal.at.put_slot-requires c).Start c.requires.drops in
-    let w = dropped_within c.requires.heap c.requires.drops in
-    let len = c.slide_down.ensures.len in
+    let w = dropped_within c.requires.heap c.requires.drops in let len = c.slide_down.ensures.len in
     record {
       inside = record { inside = omega (arith, f.inside, len); misses = within_misses _ 8 w c.slide_down.ensures.lent (omega arith) (omega (arith, f.is_free.header_fits)) };
       small = omega (arith, f.middle.most, len);

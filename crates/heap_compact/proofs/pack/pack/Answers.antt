@@ -1,5 +1,5 @@
 -- Each step packs one more chunk of the run, and the last room goes into its list.
-use Rattle.heap_compact.proofs.Words.{ℕ, List, ◌-◌, sym, subst, ◌∙◌, arith, refl, packed, AreLists, Before, new_lists, lists_any, same_lents}
+use Rattle.heap_compact.proofs.Words.{◌-◌, ◌∙◌, arith, refl, Before, new_lists, lists_any, same_lents}
 use Rattle.heap_compact.proofs.ExactLaws.{exactly_linked}
 use Rattle.heap_compact.proofs.PackLaws.{packing_start, packing_more, packing_next, packing_on, packing_done, room_packed}
 use Rattle.heap_compact.proofs.MemoryLaws.{same_slid}
@@ -38,14 +38,12 @@ loop-at-preserved c =
 
 pub push_room-requires : goal.push_room-requires
 push_room-requires c =
-    let i = c.loop-at.invariant in
-    let room = room_packed i.0 c.requires.run in
+    let i = c.loop-at.invariant in let room = room_packed i.0 c.requires.run in
     record { heap = i.3; within = room.0; free = room.1; lists = i.2 }
 
 pub returns : goal.returns
 returns c =
-    let i = c.loop-at.invariant in
-    let all = packing_done i.0 (omega arith) in
+    let i = c.loop-at.invariant in let all = packing_done i.0 (omega arith) in
     let p = c.push_room.ensures in
     record {
       lists = lists_any _ _ _ p.lists;

@@ -1,5 +1,5 @@
 -- A chunk is joined with the room before it, stays after it, or goes down over it.
-use Rattle.heap_compact.proofs.Words.{◌+◌, ◌-◌, inl, inr, ap, ◌∙◌, arith, sym, size_by, Before, lists_weaker, same_bytes, same_lents}
+use Rattle.heap_compact.proofs.Words.{inl, inr, ap, ◌∙◌, arith, sym, size_by, lists_weaker, same_bytes, same_lents}
 use Rattle.heap_compact.proofs.PackLaws.{behind_spelled, join_writable, packed_free, free_keeps, room_in_front, slot_there, droppable, packed_movable, packed_kept, kept_linked, behind_misses, join_misses}
 use Rattle.heap_place.proofs.GatherLaws.{kept_lists}
 use Rattle.heap_compact.proofs.LentRuns.{packed_holds}

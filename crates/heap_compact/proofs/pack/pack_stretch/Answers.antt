@@ -9,10 +9,8 @@ pack-requires-clause-run c = stretch_run c.requires.stretch.is
 
 pub returns : goal.returns
 returns c =
-    let s = c.requires.stretch in
-    let p = c.pack.ensures in
-    let room = room_left c.args.stretch p.room in
-    let here = p.packed (stretch_run s.is) in
+    let s = c.requires.stretch in let p = c.pack.ensures in
+    let room = room_left c.args.stretch p.room in let here = p.packed (stretch_run s.is) in
     record {
       lists = p.lists;
       packed = λ before mid after x. exactly_becomes (p.packed (stretch_run x));

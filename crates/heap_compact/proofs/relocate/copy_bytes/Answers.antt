@@ -16,8 +16,7 @@ slide-requires c = record {
 
 pub returns : goal.returns
 returns c =
-    let after = (goal.at.returns c).After-slide in
-    let k = copied after c.requires.from in
+    let after = (goal.at.returns c).After-slide in let k = copied after c.requires.from in
     let few = taken_fits c.args.to.length c.requires.from.live.bytes in
     record {
       copied = λ f. (copied after f).made;

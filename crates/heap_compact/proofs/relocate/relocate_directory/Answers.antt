@@ -1,5 +1,5 @@
 -- The directory is no directory while it moves, and is named again then.
-use Rattle.heap_compact.proofs.Words.{◌∙◌, inl, inr, refl, plain_then, lists_kept, same_lents, ap, ℕ, ◌+◌, IsOne}
+use Rattle.heap_compact.proofs.Words.{◌∙◌, inl, inr, refl, plain_then, lists_kept, same_lents, ap, ◌+◌, IsOne}
 use Rattle.std.specs.Prelude.{min}
 use Rattle.heap_compact.proofs.MemoryLaws.{same_slid}
 use Rattle.laws_heap.proofs.Directory.{named_spot, relocated_again}

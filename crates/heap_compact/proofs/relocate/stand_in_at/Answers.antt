@@ -1,5 +1,5 @@
 -- A fixed chunk is made where the room is, and every chunk that was found stays.
-use Rattle.heap_compact.proofs.Words.{ℕ, ap, subst, arith, rules, length-replicate, need, IsFreeChunk, CutsRoom, room_facts, lists_kept, lists_any, cut_chunk, cut_claims}
+use Rattle.heap_compact.proofs.Words.{ℕ, ap, subst, arith, rules, length-replicate, need, IsFreeChunk, room_facts, lists_kept, lists_any, cut_chunk, cut_claims}
 use Rattle.heap_compact.proofs.RelocateLaws.{stands_there, stand_keeps}
 use Rattle.heap_compact.proofs.relocate.stand_in_at.Goals as goal
 
@@ -10,8 +10,7 @@ size_of_body-requires c =
 
 pub overflow_add-body : goal.overflow_add-body
 overflow_add-body c =
-    let f = room_facts _ _ _ c.requires.heap.accepted c.requires.room in
-    omega (arith, f.0, f.2)
+    let f = room_facts _ _ _ c.requires.heap.accepted c.requires.room in omega (arith, f.0, f.2)
 
 pub claim_fixed_at-requires-clause-free : goal.claim_fixed_at-requires-clause-free
 claim_fixed_at-requires-clause-free c =

@@ -1,5 +1,5 @@
 -- Zeros, the header of the rest and the chunk's own header are written.
-use Rattle.heap_compact.proofs.Words.{◌-◌, ap, sym, subst, arith, rules, ◌∙◌, RunBehind, size_by, IsWritableHeader, rest_length, run_facts, sized_writable, WasResized, resized_by, part_within, found_size, same_bytes, same_lents}
+use Rattle.heap_compact.proofs.Words.{ap, sym, arith, rules, ◌∙◌, RunBehind, size_by, rest_length, run_facts, sized_writable, WasResized, resized_by, part_within, found_size, same_bytes, same_lents}
 use Rattle.heap_place.proofs.RegrownLaws.{resized_keeps, resized_rest}
 use Rattle.heap_compact.proofs.LentRuns.{regrown_within, resized_holds, resized_total, length_size}
 use Rattle.heap_compact.proofs.MemoryLaws.{within_misses}
@@ -70,8 +70,7 @@ write-requires c =
 
 pub returns : goal.returns
 returns c =
-    let after = (goal.at.returns c).After-write in
-    let b = c.requires.behind in
+    let after = (goal.at.returns c).After-write in let b = c.requires.behind in
     let x = resized after b in
     let same = same_lents c.write.ensures.after ∙ same_lents c.write_rest.ensures.rest ∙ same_lents c.fill.ensures.after in
     let size = found_size c.args.region.now.bytes c.args.found b.one in

@@ -1,5 +1,5 @@
 -- What the chunk takes leaves its lists, and the rest goes into its own.
-use Rattle.heap_compact.proofs.Words.{◌+◌, ◌-◌, ℕ, sym, subst, arith, need, IsFreeChunk, plain_then, links_plain, run_facts, rules}
+use Rattle.heap_compact.proofs.Words.{◌+◌, ◌-◌, sym, subst, arith, IsFreeChunk, plain_then, links_plain, run_facts, rules}
 use Rattle.heap_place.proofs.RegrownLaws.{run_spot, resized_lists, regrown_lists, regrown_all, resizes_links}
 use Rattle.heap_place.proofs.AlikeLaws.{alike_behind, alike_resizes}
 use Rattle.heap_compact.proofs.resize.resize_listed.Goals as goal

@@ -1,5 +1,5 @@
 -- When the walk ends, the greatest room of all stretches is known.
-use Rattle.heap_compact.proofs.Words.{ℕ, ◌+◌, ◌∙◌, sym, ap, subst, arith, max, size_by, Passed, HaveRooms, passed_there, passed_size, free_fits_by, walked_misses}
+use Rattle.heap_compact.proofs.Words.{◌+◌, ◌∙◌, sym, ap, subst, arith, max, size_by, Passed, HaveRooms, passed_there, passed_size, free_fits_by, walked_misses}
 use Rattle.heap_compact.proofs.LargestLaws.{rooms_start, rooms_fit, rooms_closed, rooms_more, rooms_all}
 use Rattle.heap_compact.proofs.stretch.largest_room.Goals as goal
 use Rattle.heap_compact.proofs.stretch.largest_room.Goals.{then-stays, else-stays}
@@ -20,10 +20,8 @@ pub overflow_add-room : goal.overflow_add-room
 overflow_add-room c =
     let most = c.requires.heap.accepted.1.tiles.head.most in
     let fits = rooms_fit c.loop-at.largest c.loop-at.room c.loop-at.invariant in
-    let size = passed_size _ _ _ c.at_with_size-header.ensures.header in
-    let inside = size.1 in
-    let within = free_fits_by c.at_with_size-header.result.0 in
-    omega arith
+    let size = passed_size _ _ _ c.at_with_size-header.ensures.header in let inside = size.1 in
+    let within = free_fits_by c.at_with_size-header.result.0 in omega arith
 
 pub loop-at-preserved : goal.loop-at-preserved
 loop-at-preserved c =

@@ -1,5 +1,5 @@
 -- The room is taken from its lists, and a movable chunk is put there.
-use Rattle.heap_compact.proofs.Words.{ℕ, replicate, ap, sym, subst, ◌∙◌, arith, length-replicate, Memory, u32_at, movable, need, IsSlot, Claims, slot_kept, room_facts, lists_kept, lists_any, taken_chunk}
+use Rattle.heap_compact.proofs.Words.{replicate, ap, sym, subst, ◌∙◌, arith, length-replicate, Memory, u32_at, movable, need, IsSlot, Claims, slot_kept, room_facts, lists_kept, lists_any, taken_chunk}
 use Rattle.laws_heap.proofs.SameLayouts.{same_slots}
 use Rattle.heap_compact.proofs.KeptLaws.{viewed_heap, viewed_space}
 use Rattle.heap_compact.proofs.SpaceWrites.{room_claimed}

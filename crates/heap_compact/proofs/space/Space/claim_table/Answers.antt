@@ -1,5 +1,5 @@
 -- The room is taken from its lists, and a table is put there and remembered.
-use Rattle.heap_compact.proofs.Words.{◌+◌, ap, subst, ◌∙◌, arith, Memory, Tables, is_chained, PutsTable, room_facts, lists_kept, lists_any, taken_chunk}
+use Rattle.heap_compact.proofs.Words.{◌+◌, ap, subst, ◌∙◌, arith, is_chained, PutsTable, room_facts, lists_kept, lists_any, taken_chunk}
 use Rattle.laws_heap.proofs.MoreTables.{puts_after, puts_before}
 use Rattle.heap_compact.proofs.KeptLaws.{tables_kept, tables_gained, viewed_heap}
 use Rattle.heap_compact.proofs.space.Space.claim_table.Goals.{After-build_unless_packed}
@@ -11,7 +11,8 @@ move_to_last-start-requires-clause-tiled c = (c.take.ensures.heap.accepted.0, c.
 pub move_to_last-start-requires-clause-knows : goal.move_to_last-start-requires-clause-knows
 move_to_last-start-requires-clause-knows c = tables_kept _ c.take.ensures.same.frame c.self.invariant.tables
 
-put : (c : After-build_unless_packed) → PutsTable c.args.self.now.bytes c.build_unless_packed.new.region.bytes (c.args.room.at + 8)
+put : (c : After-build_unless_packed)
+    → PutsTable c.args.self.now.bytes c.build_unless_packed.new.region.bytes (c.args.room.at + 8)
 put c =
     subst (λ m. PutsTable m.bytes c.build_unless_packed.new.region.bytes (c.args.room.at + 8)) c.self.view_is
     (puts_before _ _ _ _

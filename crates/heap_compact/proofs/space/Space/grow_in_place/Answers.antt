@@ -1,5 +1,4 @@
 -- A chunk that grew moved no table, and one that didn't changed nothing.
-use Rattle.heap_compact.proofs.Words.{◌-◌, subst, Memory, need, TellsWhetherInPlace}
 use Rattle.heap_compact.proofs.KeptLaws.{grown_kept}
 use Rattle.heap_compact.proofs.space.Space.grow_in_place.Goals as goal
 

@@ -1,5 +1,5 @@
 -- The body reads as zeros, and is one lent part more.
-use Rattle.heap_compact.proofs.Words.{ℕ, ◌≡◌, ◌+◌, ◌∷◌, replicate, refl, sym, ap, subst, ◌∙◌, arith, length-replicate, Memory, Lent, NoneBegins, HoldsHeap, found_markable, lending_lends, same_bytes, same_lents}
+use Rattle.heap_compact.proofs.Words.{ℕ, ◌≡◌, ◌+◌, ◌∷◌, replicate, refl, ap, ◌∙◌, arith, length-replicate, Lent, HoldsHeap, found_markable, lending_lends, same_bytes, same_lents}
 use Rattle.heap_compact.proofs.KeptLaws.{viewed_heap}
 use Rattle.heap_compact.proofs.SpaceWrites.{BodyWritten, body_written, body_within}
 use Rattle.heap_compact.proofs.space.Space.lend.Goals.{After-lend}

@@ -1,5 +1,5 @@
 -- No chunk is in a list, and the tables of the chain are remembered.
-use Rattle.heap_compact.proofs.Words.{ℕ, List, sym, subst, Any, HasLists, new_lists}
+use Rattle.heap_compact.proofs.Words.{Any, new_lists}
 use Rattle.heap_compact.proofs.space.Space.of_accepted.Goals as goal
 
 pub invariant_of-result : goal.invariant_of-result

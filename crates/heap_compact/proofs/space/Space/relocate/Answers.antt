@@ -1,5 +1,4 @@
 -- A chunk that moved had a run to go to, and no table moves.
-use Rattle.heap_compact.proofs.Words.{subst, OnTrue, Memory, RelocatesToRun}
 use Rattle.heap_compact.proofs.RelocateLaws.{had_run}
 use Rattle.heap_compact.proofs.KeptLaws.{kept_space}
 use Rattle.heap_compact.proofs.space.Space.relocate.Goals as goal

@@ -1,5 +1,5 @@
 -- The chunk is resized with no free chunk after it.
-use Rattle.heap_compact.proofs.Words.{sym, subst, Memory, RunBehind, Resizes, none_behind, shrinks}
+use Rattle.heap_compact.proofs.Words.{none_behind, shrinks}
 use Rattle.heap_compact.proofs.KeptLaws.{viewed_heap, viewed_space}
 use Rattle.heap_compact.proofs.space.Space.shrink.Goals as goal
 

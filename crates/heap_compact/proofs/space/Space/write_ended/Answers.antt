@@ -1,5 +1,5 @@
 -- The bytes and a zero are one write over those of a body that isn't lent.
-use Rattle.heap_compact.proofs.Words.{◌≡◌, ℕ, ◌+◌, List, ◌++◌, [], ◌∷◌, length, refl, ap, rules, ◌∙◌, arith, length-append, Memory, overwritten, overwritten-behind, still_within, bytes_inside, same_bytes, same_lents}
+use Rattle.heap_compact.proofs.Words.{◌≡◌, ℕ, ◌+◌, ◌++◌, [], ◌∷◌, length, refl, ap, rules, ◌∙◌, arith, length-append, Memory, overwritten, overwritten-behind, still_within, bytes_inside, same_bytes, same_lents}
 use Rattle.heap_compact.proofs.KeptLaws.{viewed_heap}
 use Rattle.heap_compact.proofs.SpaceWrites.{SpaceWritten, space_written, body_within}
 use Rattle.heap_compact.proofs.space.Space.write_ended.Goals.{After-fill}
@@ -18,8 +18,7 @@ fill-requires c =
 -- the bytes and the zero after them are one write
 written : (c : After-fill) → SpaceWritten c.args.self.now.bytes c.fill.new.self c.self.inside.lists c.self.inside.tables c.args.found c.args.at (c.args.bytes.now ++ 0 ∷ [])
 written c =
-    let at : ℕ = c.args.found.place.0 + c.args.at in
-    let end : ℕ = at + length c.args.bytes.now in
+    let at : ℕ = c.args.found.place.0 + c.args.at in let end : ℕ = at + length c.args.bytes.now in
     let inside = bytes_inside _ c.args.found (viewed_heap c.self.view_is c.self.invariant.heap).accepted c.requires.found in
     let len = ap (λ (m : Memory). length m.bytes) c.self.view_is in
     let both = overwritten-behind c.self.inside.region.bytes at c.args.bytes.now (0 ∷ []) end refl (omega (arith, inside, len, c.requires.within)) in
