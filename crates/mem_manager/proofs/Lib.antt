@@ -1,3 +1,4 @@
+pub mod Words
 pub mod RememberedNames
 pub mod StepWords
 pub mod ChunkCalls

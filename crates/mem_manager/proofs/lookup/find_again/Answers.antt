@@ -1,5 +1,5 @@
 -- As for `find`; and a name that no slot has is of a fixed chunk, so it may be remembered.
-use Rattle.std.proofs.lemmas.Bool.{OnTrue_at}
+use Rattle.mem_manager.proofs.Words.{OnTrue_at}
 use Rattle.mem_manager.proofs.Places.{refused_unknown}
 use Rattle.mem_manager.proofs.RememberedNames.{remembered_held}
 use Rattle.mem_manager.proofs.StepWords.{found_callers}
@@ -19,4 +19,6 @@ returns-then-is_fixed-clause-none c =
     refused_unknown c.args.space.now.bytes c.args.name.0 c.chunk.result c.callers-then-is_fixed.result c.holds.ensures.accepted c.chunk.ensures c.callers-then-is_fixed.ensures.managers
 
 pub returns-then-is_fixed-clause-remembered : goal.returns-then-is_fixed-clause-remembered
-returns-then-is_fixed-clause-remembered c = remembered_held c.args.space.now.bytes c.requires.known c.remember.ensures (OnTrue_at c.if-is_fixed.true c.is_fixed.ensures.there)
+returns-then-is_fixed-clause-remembered c =
+    remembered_held c.args.space.now.bytes c.requires.known c.remember.ensures
+    (OnTrue_at c.if-is_fixed.true c.is_fixed.ensures.there)

@@ -1,5 +1,5 @@
 -- The chunk at a place is a caller's, or no caller's chunk is there.
-use Rattle.std.proofs.Common.{arith}
+use Rattle.mem_manager.proofs.Words.{arith}
 use Rattle.mem_manager.proofs.Places.{found_there, nowhere, managers_there}
 use Rattle.mem_manager.proofs.lookup.name_at.Goals as goal
 

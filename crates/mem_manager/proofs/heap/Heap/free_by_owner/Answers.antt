@@ -1,6 +1,5 @@
 -- All chunks of an owner are freed, or the first check refuses.
-use Rattle.std.proofs.Common.{refl, inl, inr}
-use Rattle.heap_model.specs.declared.call.Reply.{Reply}
+use Rattle.mem_manager.proofs.Words.{refl, inl, inr, Reply}
 use Rattle.mem_manager.proofs.StepWords.{refused, answers}
 use Rattle.mem_manager.proofs.NewChunks.{owner_freed, managed_anew}
 use Rattle.mem_manager.proofs.LoanCalls.{lends_of, lends_none}
@@ -21,12 +20,13 @@ pub give_back_owned-count-requires-clause-none_lent : goal.give_back_owned-count
 give_back_owned-count-requires-clause-none_lent c = c.in_default.ensures.none
 
 pub invariant_of-self : goal.invariant_of-self
-invariant_of-self c = managed_anew c.give_back_owned-count.ensures.heap (c.first-self-inside.ensures c.give_back_owned-count.new.self.bytes) c.none-self-inside.ensures
+invariant_of-self c =
+    managed_anew c.give_back_owned-count.ensures.heap
+    (c.first-self-inside.ensures c.give_back_owned-count.new.self.bytes) c.none-self-inside.ensures
 
 pub returns-clause-does : goal.returns-clause-does
 returns-clause-does c =
-    let count_is = c.give_back_owned-count.ensures in
-    let self = c.give_back_owned-count.new.self in
+    let count_is = c.give_back_owned-count.ensures in let self = c.give_back_owned-count.new.self in
     rw (← c.self.view_is)
     (owner_freed self c.args.owner c.self.invariant.heap c.in_ok-check_owner.ensures.ok
     (lends_none c.self.invariant.heap c.in_default.ensures.none)

@@ -1,10 +1,7 @@
 -- A chunk is made for a caller, or the owner is refused.
-use Rattle.std.proofs.Common.{refl, inl, subst}
-use Rattle.heap_model.specs.declared.call.Reply.{Reply}
+use Rattle.mem_manager.proofs.Words.{refl, inl, subst, Reply, HeapAccepted, Memory}
 use Rattle.mem_manager.proofs.StepWords.{answers}
 use Rattle.mem_manager.proofs.SlidChunks.{nothing_slides, itself_one}
-use Rattle.heap_model.specs.Heap.{HeapAccepted}
-use Rattle.heap_model.specs.Memory.{Memory}
 use Rattle.mem_manager.proofs.NewChunks.{new_step}
 use Rattle.mem_manager.proofs.heap.Heap.handle_new.Goals as goal
 
@@ -17,7 +14,8 @@ pub returns-in_err-check_owner-clause-one_stretch : goal.returns-in_err-check_ow
 returns-in_err-check_owner-clause-one_stretch c = itself_one c.args.self.now.bytes
 
 pub returns-in_err-check_owner-clause-once : goal.returns-in_err-check_owner-clause-once
-returns-in_err-check_owner-clause-once c = rw (← c.self.view_is) (nothing_slides c.self.invariant.heap)
+returns-in_err-check_owner-clause-once c =
+    rw (← c.self.view_is) (nothing_slides c.self.invariant.heap)
 
 pub returns-clause-does : goal.returns-clause-does
 returns-clause-does c =

@@ -1,16 +1,13 @@
 -- A fixed chunk is made where room was found, or the first check refuses.
-use Rattle.std.proofs.Common.{◌≡◌, ◌+◌, refl, ap, ◌∙◌, inl, inr, ℕ, Some, None}
-use Rattle.heap_model.specs.Chunk.{fixed_lock}
-use Rattle.heap_model.specs.Reading.{held}
-use Rattle.heap_model.specs.declared.call.Reply.{Reply}
+use Rattle.mem_manager.proofs.Words.{◌≡◌, ◌+◌, refl, ap, ◌∙◌, inl, inr, ℕ, Some, None, fixed_lock, held, Reply, ChangesName}
 use Rattle.mem_manager.proofs.StepWords.{answers, answers_inside}
 use Rattle.mem_manager.proofs.NewChunks.{ptr_made, ptr_claimed, ptr_unheld, managed_ptr, zeros}
 use Rattle.mem_manager.proofs.SlidChunks.{nothing_slides, once_then, made_moves_nothing, nothing_then, one_stretch_then, itself_one}
-use Rattle.laws_heap.proofs.Exchanges.{ChangesName}
 use Rattle.mem_manager.proofs.heap.Heap.ptr_new.Goals as goal
 
 -- the name of the room stood for nothing once one stretch had slid
-empty : (c : goal.After-remember) → held c.room_for.new.space.bytes (c.in_ok-room.room.at + 8) ≡ None
+empty : (c : goal.After-remember)
+    → held c.room_for.new.space.bytes (c.in_ok-room.room.at + 8) ≡ None
 empty c =
     let room_is = c.in_ok-room.ensures in
     ptr_unheld c.args.size c.room_for.ensures.slides room_is.room room_is.enough
@@ -27,10 +24,12 @@ returns-in_err-check_owner-clause-does c =
     (inl (c.in_err-check_owner.ensures.err, refl))
 
 pub returns-in_err-check_owner-clause-one_stretch : goal.returns-in_err-check_owner-clause-one_stretch
-returns-in_err-check_owner-clause-one_stretch c = rw (← c.self.view_is) (itself_one c.self.inside.space.bytes)
+returns-in_err-check_owner-clause-one_stretch c =
+    rw (← c.self.view_is) (itself_one c.self.inside.space.bytes)
 
 pub returns-in_err-check_owner-clause-once : goal.returns-in_err-check_owner-clause-once
-returns-in_err-check_owner-clause-once c = rw (← c.self.view_is) (nothing_slides c.self.invariant.heap)
+returns-in_err-check_owner-clause-once c =
+    rw (← c.self.view_is) (nothing_slides c.self.invariant.heap)
 
 pub returns-in_err-room-clause-does : goal.returns-in_err-room-clause-does
 returns-in_err-room-clause-does c =

@@ -10,7 +10,8 @@ pub movable-requires-clause-movable : goal.movable-requires-clause-movable
 movable-requires-clause-movable c = movable_loose (movable_viewed c.self.view_is c.requires)
 
 pub returns-clause-stands : goal.returns-clause-stands
-returns-clause-stands c = stands_found c.self.view_is c.self.invariant.heap c.requires c.movable.ensures
+returns-clause-stands c =
+    stands_found c.self.view_is c.self.invariant.heap c.requires c.movable.ensures
 
 pub returns-clause-unlocked : goal.returns-clause-unlocked
 returns-clause-unlocked c = unlocked_here c.self.view_is c.self.invariant.heap c.movable.ensures
