@@ -6,7 +6,7 @@ use Rattle.heap_place.proofs.FoundLaws.{Fields, fields_of, bytes_inside}
 wrote_second : {old new : List ℕ} {found : Found} (word : ℕ) → HeapAccepted old → IsOne old found → new ≡ overwritten old (found.place.0 - 8 + 4) (u32_bytes word) → WroteWithin old new (found.place.0 - 8) (found.place.0 - 8 + 8)
 wrote_second {old} {new} {found} word h f is =
     let at : ℕ = found.place.0 - 8 in let inside = bytes_inside old found h f in
-    wrote_wider old new _ _ at _ (wrote_word old new _ word is (omega arith)) (omega arith) (omega arith)
+    wrote_wider _ new _ _ at _ (wrote_word old new _ _ is (omega arith)) (omega arith) (omega arith)
 
 -- a chunk that was found is changed, where the rest is as it was
 pub changed_there : (old new : List ℕ) (found : Found) (change : Chunk → Chunk) → HeapAccepted old → (f : IsOne old found) → Becomes old new (f.finds.before ++ change f.chunk ∷ f.finds.after) → Alters old new (found.place.0 - 8) change

@@ -27,8 +27,8 @@ gap_spelled old {mid} {new} {at} size at_rest (suc n) end e f least inside len w
 
 pub rest_within : (old mid : List ℕ) (at_rest rest low high : ℕ) → WroteRest old mid at_rest rest → low ≤ at_rest → at_rest + rest ≤ high → high ≤ length old → rest % 8 ≡ 0 → WroteWithin old mid low high
 rest_within old mid at_rest rest low high r a b c whole = elim r [
-  | inl none ↦ subst (λ image. WroteWithin old image low high) (sym none.1) (wrote_none old low high)
-  | inr some ↦ wrote_wider old mid _ _ low high (wrote_word old mid _ _ some.1.0 (omega arith)) a (omega arith)
+  | inl none ↦ subst (λ image. WroteWithin old image low high) (sym none.1) (wrote_none old low _)
+  | inr some ↦ wrote_wider _ _ _ _ _ _ (wrote_word _ mid _ _ some.1.0 (omega arith)) a (omega arith)
 ]
 
 -- what is left has a plain first word
@@ -78,7 +78,7 @@ was_cut {old} mid {new} {at} {room} size accepted r least whole within wrote is 
 pub room_facts : (image : List ℕ) (at size : ℕ) → HeapAccepted image → IsSpot image at size
     → (at + size ≤ length image) × (size % 8 ≡ 0) × (length image ≤ 16777208)
 room_facts image at size accepted r =
-    let m = middle_of image r.before r.run r.after at (heap_in_parts image (r.before ++ (r.run ++ r.after)) accepted r.chunks) r.there in
+    let m = middle_of image _ r.run r.after at (heap_in_parts image _ accepted r.chunks) r.there in
     (omega arith, omega arith, m.most)
 
 pub rest_length : (old new : List ℕ) (at size : ℕ) → WroteRest old new at size

@@ -45,16 +45,16 @@ header_bound {image} {at} {header} h b found = by_after b.after b.ends.chunks wh
   by_after : (after : List Chunk) → chunks_of image ≡ b.before ++ after → IsBound image (at + size_by header) × (at + size_by header ≤ length image) × (8 ≤ size_by header)
   by_after [] e =
       let heap = heap_in_parts image (b.before ++ []) h e in
-      let all = SpelledAll-end image (area_start image) (b.before ++ []) (length image) heap.tiles.area in
+      let all = SpelledAll-end image _ (b.before ++ []) (length image) heap.tiles.area in
       let sum = total-append b.before [] in let sizes = within in
       absurd (omega arith)
   by_after (c ∷ after) e =
       let heap = heap_in_parts image (b.before ++ c ∷ after) h e in
-      let s = SpelledAll-split image (area_start image) b.before (c ∷ after) (length image) heap.tiles.area in
+      let s = SpelledAll-split image _ b.before (c ∷ after) (length image) heap.tiles.area in
       let spelled = subst (λ n. Spelled image n c) (sym b.ends.there) s.1.0 in
       let same : size_by header ≡ size_of c = size_is ∙ first_size image at found.chunk found.spelled ∙ sym (first_size image at c spelled) in
       let sizes = size_is in let fits = within in
-      (bound_after image b.before c after (size_by header) e b.ends.there same, omega arith, omega arith)
+      (bound_after image b.before c after _ e b.ends.there same, omega arith, omega arith)
 
 -- ---- one step
 

@@ -66,10 +66,10 @@ other_apart at size there apart these = elim these [ inl here ↦ apart (sym her
 -- a free chunk other than one in parts of the image lies outside of it
 pub others_outside : {image : List ℕ} (before : List Chunk) (size : ℕ) (after : List Chunk) {at : ℕ} (there : ℕ) → HeapAccepted image → chunks_of image ≡ before ++ free size ∷ after → at ≡ area_start image + total before → BeginsFree image there → there ≢ at → Outside at size there
 others_outside {image} before size after there h was is b apart = elim (AnyPlaced-split (IsFreeAt there) (area_start image) before (free size ∷ after) found) [
-  | inl front ↦ let f = free_inside there (area_start image) before sizes.0 front in inl (omega arith)
+  | inl front ↦ let f = free_inside there _ before sizes.0 front in inl (omega arith)
   | inr rest ↦ elim rest [
     | inl here ↦ absurd (apart (omega arith))
-    | inr back ↦ let f = free_inside there (area_start image + total before + size) after sizes.1.1 back in inr (omega arith)
+    | inr back ↦ let f = free_inside there _ after sizes.1.1 back in inr (omega arith)
   ]
 ] where
   found : AnyPlaced (IsFreeAt there) (area_start image) (before ++ free size ∷ after)

@@ -173,7 +173,7 @@ bytes_lent_here at lent name live (fixed bytes owner) part n many here =
 pub others_lend : (old : Memory) {new : List ℕ} {found : Found} (part : List ℕ) → HeapAccepted old.bytes → LendsBodies old → (f : IsOne old.bytes found) → Alters old.bytes new (found.place.0 - 8) (with_bytes 0 part) → length part ≡ found.length → LendsOther old found.place.0
     → EachLent (IsLentBody new) old.lents
 others_lend old {new} {found} part h l f x many other =
-    let size = bytes_size found.name.0 (found.place.0 - 8) 0 f.live f.chunk part f.finds.named (omega arith) in
+    let size = bytes_size found.name.0 _ 0 f.live f.chunk part f.finds.named (omega arith) in
     let there : found.place.0 ≡ found.place.0 - 8 + 8 = omega arith in
     other_lends old (record old { bytes = new }) _ f.live f.chunk _ (λ c. with_bytes 0 part c ∷ []) h l refl f.finds x (omega arith) (rw there at other)
 
@@ -183,8 +183,8 @@ lending_lends old new found lent part h l other is f some x many there count =
     let b = (exchanges_parts _ new.bytes _ (λ c. with_bytes 0 part c ∷ []) f.finds.before f.chunk _ h (named_not_free found.name.0 (found.place.0 - 8) f.live f.chunk f.finds.named) f.finds.chunks f.finds.there).0 x in
     let here =
     subst (λ j. LentHere lent j (with_bytes 0 part f.chunk)) f.finds.there
-    (bytes_lent_here (found.place.0 - 8) lent found.name.0 f.live f.chunk part f.finds.named (many ∙ n)
-    (lent_there (found.place.0 - 8) lent found.name.0 f.live f.chunk f.finds.named (omega arith) (omega arith) (count ∙ n))) in
+    (bytes_lent_here _ lent found.name.0 f.live f.chunk part f.finds.named (many ∙ n)
+    (lent_there _ lent _ f.live f.chunk f.finds.named (omega arith) (omega arith) (count ∙ n))) in
     subst (λ y. EachLent (IsLentBody new.bytes) y) (sym is) (
       becomes_lent _ _ (f.finds.before ++ (with_bytes 0 part f.chunk ∷ f.finds.after)) lent b (AnyPlaced-mid (LentHere lent) (area_start old.bytes) f.finds.before (with_bytes 0 part f.chunk) f.finds.after here),
       others_lend old part h l f x many other,

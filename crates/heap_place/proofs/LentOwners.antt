@@ -60,9 +60,9 @@ freed_none_lent old new owner {found} h l none same f other x = λ b c a e own.
       still lent o y =
           let parts = rw f.finds.chunks at y in
           let replaced =
-          any_replaced (LentAside owner lent) start f.finds.before (f.chunk ∷ []) (freed f.chunk ∷ []) f.finds.after refl
+          any_replaced _ start f.finds.before (f.chunk ∷ []) (freed f.chunk ∷ []) f.finds.after refl
           (λ (z : AnyPlaced (LentAside owner lent) (area_start old.bytes + total f.finds.before) (f.chunk ∷ [])). elim z [
-            | inl here ↦ let at_is = (stays_here lent (area_start old.bytes + total f.finds.before) f.chunk here.0).there in absurd (o (omega arith))
+            | inl here ↦ let at_is = (stays_here lent _ _ here.0).there in absurd (o (omega arith))
             | inr no_more ↦ absurd no_more
           ]) parts in
           subst (λ n. AnyPlaced (LentAside owner lent) n (chunks_of new.bytes)) (sym (becomes_start _ _ (f.finds.before ++ ((freed f.chunk ∷ []) ++ f.finds.after)) becomes))

@@ -288,4 +288,4 @@ nothing_at {image} place h slots none_fixed name at = none (held image name) ref
   none None e = let f = sym at ∙ unplaced image name e in absurd cc
   none (Some live) e =
       let found = held_finds image name live h e in
-      at_place live _ _ found.finds (some_same (sym (finds_place _ name live _ _ h found.finds) ∙ at))
+      at_place _ _ _ found.finds (some_same (sym (finds_place _ name live _ _ h found.finds) ∙ at))

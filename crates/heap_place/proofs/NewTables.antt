@@ -63,8 +63,8 @@ alike_keeps {old} {new} {cs} {ds} t u start s there any b =
 alike_plain : {old new : List ℕ} {cs ds : List Chunk} → Tiles old cs → Tiles new ds → area_start new ≡ area_start old → SpellsAlike old new (area_start old) cs ds → WritesPlain old new
 alike_plain {old} {new} {cs} {ds} t u start s there b =
     let found = rw (chunks_of-tiled new ds u) at (rw start at b) in
-    let was = any_alike (IsFreeAt there) (free_tells there) (area_start old) ds cs (alike_back cs ds s.alike) found in
-    inr (rw (← (chunks_of-tiled old cs t)) at was, free_word old new there (area_start old) cs s.words was)
+    let was = any_alike _ (free_tells there) _ ds cs (alike_back cs ds s.alike) found in
+    inr (rw (← (chunks_of-tiled old cs t)) at was, free_word old new there _ cs s.words was)
 
 -- ---- together
 

@@ -104,7 +104,7 @@ resized_rest old new found count behind left h r w is some = by_gap left (chunks
   by_gap (suc n) e more =
       let start = same_start old new w.replaces.head in
       let front = total-append r.one.finds.before (d ∷ []) in
-      let taken = size_of-with_length c count (named_live_chunk found.name.0 (found.place.0 - 8) r.one.live c r.one.finds.named) in
+      let taken = size_of-with_length c count (named_live_chunk _ _ _ c r.one.finds.named) in
       record { before = r.one.finds.before ++ d ∷ []; after = r.rest; chunks = e ∙ sym (append_assoc r.one.finds.before (d ∷ []) (free (suc n) ∷ r.rest)); there = omega arith }
 
 -- ---- the lists
@@ -120,7 +120,7 @@ resized_lists old mid heads found own behind e h r keeps lists =
 -- and what is left, in front of its own
 pub regrown_lists : (mid new heads after : List ℕ) (at all taken : ℕ) → 8 ≤ taken → taken < all → AreLists (Outside at all) mid heads → Pushes mid new heads after (at + taken) → HasLists new after
 regrown_lists mid new heads after at all taken least less lists p =
-    push_lists _ Any lists (λ x b out. (tt, outside_not at all _ (omega arith) (omega arith) out)) tt p
+    push_lists _ _ lists (λ x b out. (tt, outside_not at _ _ (omega arith) (omega arith) out)) tt p
 
 pub regrown_all : (mid heads : List ℕ) (at all : ℕ) → AreLists (Outside at all) mid heads → HasLists mid heads
 regrown_all mid heads at all lists = lists_any (Outside at all) mid heads lists

@@ -28,7 +28,7 @@ module _ {old : List ℕ} {at name : ℕ} {live : LiveChunk} {chunk : Chunk} (h 
       → WroteWithin old mid at (at + total (chunk ∷ []))
   first_word {mid} size is =
       let fits = least in let inside = standing.inside in
-      wrote_wider old mid at _ at _ (wrote_word old mid at _ is (omega arith)) (omega arith) (omega arith)
+      wrote_wider _ _ at _ at _ (wrote_word _ mid at _ is (omega arith)) (omega arith) (omega arith)
 
   -- its slot stays one
   slot_stays : {mid : List ℕ} (size : ℕ) → IsSlot old name
@@ -56,13 +56,13 @@ given {old} {mid} new {at} size {name} {live} (movable bytes lock owner slot) h 
     let fits = least h f in let inside = m.inside in let most = m.most in
     let s = own_slot old name at live bytes lock owner slot h f in
     let slot_inside = (slot_facts old _ slot h.1.tiles s).inside in
-    let beside = slot_beside old f.before (c ∷ []) f.after at slot (heap_at h f).tiles tt m.there s in
+    let beside = slot_beside old _ (c ∷ []) f.after at slot (heap_at h f).tiles tt m.there s in
     let first = first_word h f size is in let len = first.len in
     let word = wrote_word mid new slot 0 emptied (omega arith) in
     let area : WroteArea old new at (at + total (c ∷ [])) = record { mid = mid; slot = slot; area = first; word = word; is_slot = inr s; there = let there = m.there in omega arith; fits = omega arith } in
     record {
       area = area;
-      clears = ap (λ x. u32_at x slot) emptied ∙ u32_at-written 0 slot mid (omega arith) (omega arith);
+      clears = ap (λ x. u32_at x slot) emptied ∙ u32_at-written 0 _ mid (omega arith) (omega arith);
       others = record { same = λ t ts ne. area_slots old new f.before (c ∷ []) f.after at t (heap_at h f).tiles tt m.there area ts (λ e. ne (sym e ∙ f.named.0)) };
       spelled = Spelled-same mid new at (free size) (beside_same mid new slot at (at + total (c ∷ [])) at (at + size) word beside (omega arith) (omega arith) (omega arith)) word.len (has_free mid at size header);
       word = beside_word mid new slot at (at + total (c ∷ [])) at word beside (omega arith) (omega arith) (omega arith) ∙ first_is old at size is (omega arith) (omega arith);

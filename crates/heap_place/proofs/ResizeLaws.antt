@@ -190,7 +190,7 @@ resized {old} {filled} mid {new} {found} count {behind} h r fits filled_is wrote
     let zeros : List ℕ = replicate (count - found.length) 0 in
     let many : length zeros ≡ count - found.length = length-replicate (count - found.length) 0 in
     let w0 = wrote_part old filled (found.place.0 + found.length) zeros filled_is (omega arith) in
-    let w1 = wrote_wider old filled _ (found.place.0 + found.length + length zeros) at (at + all) w0 (omega arith) (omega arith) in
+    let w1 = wrote_wider old filled _ _ at (at + all) w0 (omega arith) (omega arith) in
     let w2 = rest_within filled mid (at + need count) left (at + need count) (at + all) wrote_left (omega arith) (omega arith) (omega arith) (omega arith) in
     let len2 = w2.len in let e = header_sized count h one in
     let now = is ∙ ap (λ x. overwritten mid at (header_words at x)) e in
@@ -208,10 +208,10 @@ resized {old} {filled} mid {new} {found} count {behind} h r fits filled_is wrote
     let end : at + all ≡ at + total (c ∷ r.run) = omega arith in
     let behind_it =
     subst (λ n. SpelledAll new n (gap left) (at + total (c ∷ r.run))) (ap (λ n. at + n) (sym taken))
-    (gap_spelled filled (need count) (at + need count) left (at + total (c ∷ r.run)) refl (omega arith) (omega arith) (omega arith) len3 w3 wrote_left) in
+    (gap_spelled _ _ _ left _ refl (omega arith) (omega arith) (omega arith) len3 w3 wrote_left) in
     let done = rewritten old new _ at one.live c r.run d (gap left) r.rest h f r.parts r.all_free (gap_free left) (rw end at w) (spelled, behind_it) kind.1 kind.2
     (kind.3 (finds_callers old _ one.live c at h f)) in record {
-      becomes = becomes_heap old new (f.before ++ ((d ∷ gap left) ++ r.rest)) done.replaces.head done.heap;
+      becomes = becomes_heap old new _ done.replaces.head done.heap;
       plain = replaced_plain old new f.before (c ∷ r.run) (d ∷ gap left) r.rest at (f.chunks ∙ ap (λ cs. f.before ++ c ∷ cs) r.parts) done.heap done.replaces (λ there p. elim p [
         | inl here ↦ lives_plain new at (d ∷ []) kind.4 there (inl here)
         | inr later ↦ gap_plain filled (need count) (at + need count) left refl (omega arith) (omega arith) (omega arith) (omega arith) w3 wrote_left len2 there
@@ -244,4 +244,4 @@ shrinks old new found count h one x =
     let c : Chunk = one.chunk in let live = named_live_chunk found.name.0 at one.live c f.named in
     let taken = size_of-with_length c count live in
     let left : size_of c + 0 - need count ≡ size_of c - size_of (with_length count c) = omega arith in
-    (exchanges_parts old new at _ _ c _ h live f.chunks f.there).1 (rw left at (x (none_behind old _ one)))
+    (exchanges_parts _ _ _ _ _ c _ h live f.chunks f.there).1 (rw left at (x (none_behind _ _ one)))

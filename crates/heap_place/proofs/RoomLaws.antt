@@ -12,7 +12,7 @@ below_prefix size begun c run after f b = absurd f
 
 below_any : (size begun : ℕ) (before : List Chunk) (c : Chunk) (run after : List Chunk) → AllFree (c ∷ run) → StaysBelow size begun (before ++ ((c ∷ run) ++ after)) → total (c ∷ run) < size
 below_any size begun [] c run after f b = let h = below_prefix size _ c run _ f b in omega arith
-below_any size begun (free n ∷ before) c run after f b = below_any size (begun + n) before c run after f b.1
+below_any size begun (free n ∷ before) c run after f b = below_any size _ before c run after f b.1
 below_any size begun (d ∷ before) c run after f b = below_any size 0 before c run after f b
 
 below_no_run : (size : ℕ) (cs : List Chunk) → 0 < size → StaysBelow size 0 cs → NoRun cs size

@@ -39,7 +39,7 @@ spliced {old} {new} {class} n m {head} {here} {at} w other c next begins first k
     let at_chain = subst (λ x. Chain old class (suc m) x) next c.1 in
     let rest : Chain old class m (second_of old at) = at_chain.1 in
     let not_here = chain_apart old _ m (suc (suc m)) (second_of old at) here rest c (omega arith) in
-    let not_at = chain_apart old class m (suc m) (second_of old at) at rest at_chain (omega arith) in
+    let not_at = chain_apart old class m (suc m) _ at rest at_chain (omega arith) in
     let rest_now = chain_kept (ButAt here) class m (second_of old at) keeps rest not_here in
     let both = pair m _ not_here not_at in
     let both_now = each_kept (λ x. (x ≢ here) × (x ≢ at)) old new _ m _ (λ x p b. keeps x p.0 b) rest both in

@@ -50,7 +50,7 @@ passed_all image P at h p beyond =
 -- the chunk of a header stands among the others
 pub passed_parts : {image : List ℕ} (P : List Chunk → Type 0) {at : ℕ} {header : Header} → HeapAccepted image → (p : Passed image P at) → (found : HasHeader image at header) → (after : List Chunk) × (chunks_of image ≡ p.front ++ found.chunk ∷ after)
 passed_parts {image} P {at} {header} h p found =
-    let a = chunks_after image h.0 (p.front ++ found.chunk ∷ []) (at + size_by header) h.1.tiles (pushed P p found) (passed_size image at header found).1 in
+    let a = chunks_after _ h.0 _ _ h.1.tiles (pushed P p found) (passed_size image at _ found).1 in
     (a.0, a.1 ∙ append_assoc p.front (found.chunk ∷ []) a.0)
 
 -- ---- the free bytes

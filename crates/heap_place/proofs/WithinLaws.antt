@@ -55,7 +55,7 @@ pub keeps_body : (old new : List ℕ) (found : Found) (at : ℕ) (part : List �
 keeps_body old new found at part h f within is =
     let inside = bytes_inside old found h f in let there : ℕ = found.place.0 - 8 in
     keeps_found h (written_there old new found at part h f within is).0.frame.accepted f
-    (wrote_wider old new _ _ _ _ (wrote_part old new _ part is (omega arith)) (omega arith) (omega arith))
+    (wrote_wider _ _ _ _ _ _ (wrote_part old new _ _ is (omega arith)) (omega arith) (omega arith))
 
 -- so the lists stay, where the region's value was the space's
 pub body_lists : (old region : Memory) (new heads : List ℕ) (found : Found) (at : ℕ) (part : List ℕ) → region ≡ old → HeapAccepted old.bytes → IsOne old.bytes found → at + length part ≤ found.length → new ≡ overwritten region.bytes (found.place.0 + at) part → HasLists region.bytes heads → HasLists new heads

@@ -17,5 +17,5 @@ returns c =
       keeps = keeps_second _ r.heap.accepted done.0.frame.accepted r.found is;
       plain = done.1;
       rest = search rules;
-      heap = relocked_holds c.args.lock r.heap (same_lents c.put_lock.ensures.after) r.found done.0 r.stays;
+      heap = relocked_holds _ r.heap (same_lents c.put_lock.ensures.after) r.found done.0 r.stays;
     }

@@ -17,7 +17,7 @@ pub release-at-requires : goal.release-at-requires
 release-at-requires c =
     let i = c.loop-at.invariant in let header = c.at_with_size-header.ensures.header in
     let is = sym c.if_owned.ensures ∙ c.in-Some.is in
-    let one = owned_one (NoneOwned c.args.owner) c.args.owner i.0.frame.accepted c.requires.some_owner i.0.passed header is in
+    let one = owned_one _ _ i.0.frame.accepted c.requires.some_owner i.0.passed header is in
     record { heap = i.2; found = one; other = owned_other c.loop-at.region c.args.owner i.3 one header is; no_directory = owned_apart c.args.owner i.0.frame.accepted one header is c.requires.some_owner }
 
 pub overflow_add-at-in-Some : goal.overflow_add-at-in-Some
@@ -43,7 +43,7 @@ loop-at-preserved-in-Some c =
     let i = c.loop-at.invariant in let e = c.release-at.ensures in
     let header = c.at_with_size-header.ensures.header in
     let is = sym c.if_owned.ensures ∙ c.in-Some.is in
-    let one = owned_one (NoneOwned c.args.owner) c.args.owner i.0.frame.accepted c.requires.some_owner i.0.passed header is in (
+    let one = owned_one _ _ i.0.frame.accepted c.requires.some_owner i.0.passed header is in (
       (freeing_more c.release-at.result i.0 header is e.gone (e.exact one) e.plain).0,
       e.rest ∙ ap (λ (m : Memory). record m { bytes = c.release-at.new.region.bytes }) i.1,
       e.heap,

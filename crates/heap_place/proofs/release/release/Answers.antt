@@ -23,7 +23,7 @@ pub returns-then-found-ne-FIXED_LOCK : goal.returns-then-found-ne-FIXED_LOCK
 returns-then-found-ne-FIXED_LOCK c =
     let r = c.requires in
     let done = λ (f : IsOne c.args.region.now.bytes c.args.found). gave_back c.clear.new.region.bytes r.heap.accepted f r.no_directory c.size_of_body-size.ensures (same_bytes c.write.ensures.after) c.write.ensures.spelled
-    (emptied_loose c.write.new.region.bytes f c.if-found-ne-FIXED_LOCK.true (same_bytes c.clear.ensures.after)) in
+    (emptied_loose _ f c.if-found-ne-FIXED_LOCK.true (same_bytes c.clear.ensures.after)) in
     let gone = done r.found in
     record { gone = gone.0; chunk = gone.1; exact = λ f. (done f).4; keeps = gone.2; plain = gone.3; rest = search rules; heap = freed_holds r.heap (same_lents c.clear.ensures.after ∙ same_lents c.write.ensures.after) r.found gone.0 r.other }
 
