@@ -74,15 +74,15 @@ module _ {old : List ℕ} {at room size slot to : ℕ} {d : IsDroppable old at r
     -- the other chunks are where they were
     still : (name place : ℕ) → name ≢ slot → IsBody (area_start old) was name place
         → IsBody (area_start old) is name place
-    still name place isnt b = elim (AnyPlaced-split (BodyHere name place) (area_start old) d.before (free room ∷ c ∷ d.after) b) [
-      | inl front ↦ AnyPlaced-left (BodyHere name place) (area_start old) d.before (c ∷ free room ∷ d.after) front
+    still name place isnt b = elim (AnyPlaced-split _ (area_start old) d.before _ b) [
+      | inl front ↦ AnyPlaced-left (BodyHere name place) (area_start old) d.before _ front
       | inr rest ↦ elim rest [
         | inl none ↦ absurd none
         | inr more ↦ elim more [
           | inl mine ↦ absurd (isnt (sym mine.0))
           | inr behind ↦
               let e : area_start old + total d.before + room + size_of c ≡ area_start old + total d.before + size_of c + room = omega arith in
-              AnyPlaced-right (BodyHere name place) (area_start old) d.before (c ∷ free room ∷ d.after) (inr (inr (rw e at behind)))
+              AnyPlaced-right _ (area_start old) d.before _ (inr (inr (rw e at behind)))
         ]
       ]
     ]
@@ -218,7 +218,7 @@ join_facts {old} before size after {at} room to h chunks there e =
     let to_is : to ≡ area_start old + total before = omega (arith, there, e) in
     let m = middle_of _ before (gap room ++ free size ∷ []) after _ heap to_is in
     let a = total-append (gap room) (free size ∷ []) in let b = gap_total room in
-    let parts = SpelledAll-split old to (gap room) (free size ∷ []) (to + total (gap room ++ free size ∷ [])) m.spelled in
+    let parts = SpelledAll-split old to (gap room) (free size ∷ []) _ m.spelled in
     let here : to + total (gap room) ≡ at = omega (arith, b, there, e) in
     record { accepted = h; heap = heap; middle = m; sizes = omega (arith, a, b); to_is = to_is; is_free = rw here at parts.1.0 }
 

@@ -25,7 +25,7 @@ lifted_holds {old} {new} {gap} h same b lifts =
     let sizes = total-append b.mid (free gap ∷ []) in let x = lifts b in
     record {
       accepted = x.frame.accepted;
-      lent = loose_lends old new b.before (b.mid ++ free gap ∷ []) (free gap ∷ b.mid) b.after h.lent same (in_parts b)
+      lent = loose_lends old new b.before _ (free gap ∷ b.mid) b.after h.lent same (in_parts b)
           (exactly_becomes x) (omega (arith, sizes)) (none_stay b);
     }
 

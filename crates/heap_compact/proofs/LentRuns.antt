@@ -13,7 +13,7 @@ front_within {m} {found} {n} h f other few =
 pub regrown_within : {m : Memory} {found : Found} {more : ℕ} → HoldsHeap m → (r : RunBehind m.bytes found more) → LendsOther m found.place.0 → IsWithin m (found.place.0 - 8) (need found.length + more)
 regrown_within {m} {found} {more} h r other =
     let inside = (run_facts _ _ _ h.accepted r).inside in
-    record { inside = inside; misses = each_to (IsLentBody m.bytes) (MissesOne (found.place.0 - 8) (need found.length + more)) m.lents h.lent go } where
+    record { inside = inside; misses = each_to (IsLentBody m.bytes) _ m.lents h.lent go } where
       go : (lent : Lent) → IsAmong lent m.lents → IsLentBody m.bytes lent
           → MissesOne (found.place.0 - 8) (need found.length + more) lent
       go lent is x =
@@ -22,7 +22,7 @@ regrown_within {m} {found} {more} h r other =
           let size = found_size m.bytes found r.one in
           let t = total-append f.before (r.one.chunk ∷ []) in
           let e = f.chunks ∙ ap (λ cs. f.before ++ r.one.chunk ∷ cs) r.parts ∙ sym (append_assoc f.before (r.one.chunk ∷ []) (r.run ++ r.rest)) in
-          elim (apart f.before r.one.chunk f.after p.before p.chunk p.after (sym f.chunks ∙ p.chunks)) [
+          elim (apart _ r.one.chunk f.after p.before p.chunk p.after (sym f.chunks ∙ p.chunks)) [
             | in_front k ↦ elim (run_apart (f.before ++ r.one.chunk ∷ []) r.run r.rest p.before p.chunk p.after (sym e ∙ p.chunks) (all_free_loose r.run r.all_free) p.is.one) [
               | inl j ↦ absurd (omega (arith, j, k, t, p.is.fits))
               | inr j ↦ inl (omega (arith, j, t, p.is.there, f.there, size, r.sums))
@@ -76,7 +76,7 @@ packed_holds {old} {new} {room} {b} h same p =
     let x = p.becomes in
     record {
       accepted = x.frame.accepted;
-      lent = replaced_lends old new b.before (gap room ++ b.chunk ∷ []) (packed_one room b.chunk) b.after h.lent same chunks
+      lent = replaced_lends old new b.before _ (packed_one room b.chunk) b.after h.lent same chunks
           (record { frame = x.frame; layout = ap merged x.exact }) (packed_total room b.chunk) (λ lent is y. packed_keeps room b.chunk lent _ y);
     }
 
@@ -93,7 +93,7 @@ resized_holds {old} {new} {found} count {more} h same r other x sizes =
           (λ lent is y.
           let o = each_of (λ w. w.at ≢ found.place.0) lent old.lents other is in
           let low = r.one.behind_header in
-          absurd (not_among lent (area_start old.bytes + total f.before) r.one.chunk r.run r.all_free (λ e. o (omega (arith, e, f.there, low))) y));
+          absurd (not_among lent _ _ r.run r.all_free (λ e. o (omega (arith, e, f.there, low))) y));
     }
 
 pub resized_total : (count : ℕ) {more : ℕ} (c : Chunk) (run : List Chunk) → total run ≡ more → (size_of (with_length count c) ≡ need count) × (need count ≤ size_of c + more) → total (with_length count c ∷ gap (size_of c + more - need count)) ≡ total (c ∷ run)

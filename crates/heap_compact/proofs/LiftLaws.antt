@@ -90,21 +90,21 @@ module _ {gap : ℕ} {u : Lift gap} {image : List ℕ} {moved : List Chunk} {at 
     | inl front ↦
         let high = IsBody-high (area_start u.old) u.before slot (u32_at u.old slot) front in
         let same : u32_at image slot ≡ u32_at u.old slot = l.kept slot s (inl (omega (arith, high, is_start))) in
-        body_front (area_start u.old) u.before (free gap ∷ (moved ++ u.after)) slot (u32_at image slot) (rw (← same) at front)
-    | inr rest ↦ elim (body_in start moved (free gap ∷ u.after) (start + total moved) slot (u32_at u.old slot) refl rest) [
+        body_front (area_start u.old) u.before _ slot (u32_at image slot) (rw (← same) at front)
+    | inr rest ↦ elim (body_in start moved _ _ slot (u32_at u.old slot) refl rest) [
       | inl here ↦
           let low = IsBody-low start moved slot (u32_at u.old slot) here in
           let high = IsBody-high start moved slot (u32_at u.old slot) here in
           let same : u32_at image slot ≡ u32_at u.old slot + gap = l.lifted slot s (omega (arith, low, is_start)) (omega (arith, high, end)) in
-          body_behind (area_start u.old) u.before (free gap ∷ (moved ++ u.after)) _ slot (u32_at image slot) is_start
-          (inr (body_front (start + gap) moved u.after slot (u32_at image slot) (rw (← same) at (bodies_up slot (u32_at u.old slot) start gap moved here))))
+          body_behind (area_start u.old) u.before _ _ slot (u32_at image slot) is_start
+          (inr (body_front _ _ _ slot _ (rw (← same) at (bodies_up slot _ start gap moved here))))
       | inr behind ↦ elim behind [
         | inl none ↦ absurd none
         | inr back ↦
-            let low = IsBody-low (start + total moved + gap) u.after slot (u32_at u.old slot) back in
+            let low = IsBody-low _ u.after slot (u32_at u.old slot) back in
             let same : u32_at image slot ≡ u32_at u.old slot = l.kept slot s (inr (omega (arith, low, end))) in
             let e : start + total moved + gap ≡ start + gap + total moved = omega arith in
-            body_behind (area_start u.old) u.before (free gap ∷ (moved ++ u.after)) _ slot (u32_at image slot) is_start
+            body_behind (area_start u.old) u.before _ _ slot (u32_at image slot) is_start
             (inr (body_behind (start + gap) moved u.after (start + gap + total moved) slot (u32_at image slot) refl (subst (λ (n : ℕ). IsBody n u.after slot (u32_at image slot)) e (subst (λ (p : ℕ). IsBody (start + total moved + gap) u.after slot p) (sym same) back))))
       ]
     ]
@@ -117,11 +117,11 @@ module _ {gap : ℕ} {u : Lift gap} {image : List ℕ} {moved : List Chunk} {at 
 
   to_old : (slot place : ℕ) → IsBody (area_start u.old) lifted slot place
       → IsSlot u.old slot × (u32_at image slot ≡ place)
-  to_old slot place b = elim (body_in (area_start u.old) u.before (free gap ∷ (moved ++ u.after)) _ slot place is_start b) [
+  to_old slot place b = elim (body_in (area_start u.old) u.before _ _ slot place is_start b) [
     | inl front ↦
         let low = IsBody-low (area_start u.old) u.before slot place front in
         let high = IsBody-high (area_start u.old) u.before slot place front in
-        let was = of_old slot place (body_front (area_start u.old) u.before (moved ++ free gap ∷ u.after) slot place front) (omega arith) in
+        let was = of_old slot place (body_front _ u.before _ slot place front) (omega arith) in
         (was.0, l.kept slot was.0 (inl (omega (arith, high, was.1, is_start))) ∙ was.1)
     | inr rest ↦ elim rest [
       | inl none ↦ absurd none
@@ -135,8 +135,8 @@ module _ {gap : ℕ} {u : Lift gap} {image : List ℕ} {moved : List Chunk} {at 
         | inr back ↦
             let low = IsBody-low (start + gap + total moved) u.after slot place back in
             let e : start + gap + total moved ≡ start + total moved + gap = omega arith in
-            let was = of_old slot place (body_behind (area_start u.old) u.before (moved ++ free gap ∷ u.after) _ slot place is_start
-            (body_behind start moved (free gap ∷ u.after) (start + total moved) slot place refl (inr (rw e at back)))) (omega arith) in
+            let was = of_old slot place (body_behind _ u.before _ _ slot place is_start
+            (body_behind start moved _ _ slot place refl (inr (rw e at back)))) (omega arith) in
             (was.0, l.kept slot was.0 (inr (omega (arith, low, was.1, end))) ∙ was.1)
       ]
     ]
@@ -167,14 +167,14 @@ module _ {gap : ℕ} {u : Lift gap} {image : List ℕ} {moved : List Chunk} {at 
   known_again : NoneStays moved → EveryPlaced (IsKnownIfFixed (further_tables image)) (area_start image) lifted
   known_again loose =
       let known : ℕ → Chunk → Type 0 = IsKnownIfFixed (further_tables u.old) in
-      let first = EveryPlaced-split known (area_start u.old) u.before (moved ++ free gap ∷ u.after) l.heap.fixed_are_known in
-      let second = EveryPlaced-split known (area_start u.old + total u.before) moved (free gap ∷ u.after) first.1 in
+      let first = EveryPlaced-split known (area_start u.old) u.before _ l.heap.fixed_are_known in
+      let second = EveryPlaced-split known _ moved (free gap ∷ u.after) first.1 in
       let here : ℕ = area_start u.old + total u.before in
       let e : here + total moved + gap ≡ here + gap + total moved = omega arith in
       subst (λ (ts : List Table). EveryPlaced (IsKnownIfFixed ts) (area_start image) lifted) (sym (ap (λ (t : Tables). t.further) l.tables))
       (subst (λ (n : ℕ). EveryPlaced known n lifted) (sym new_start)
       (EveryPlaced-append known (area_start u.old) u.before (free gap ∷ (moved ++ u.after)) first.0
-      (tt, EveryPlaced-append known (here + gap) moved u.after (loose_known (further_tables u.old) (here + gap) moved loose) (rw e at second.1.1))))
+      (tt, EveryPlaced-append known _ moved _ (loose_known _ _ moved loose) (rw e at second.1.1))))
 
   managers_again : (slot : ℕ) → AnyPlaced (ManagersHere slot) (area_start u.old) unlifted
       → AnyPlaced (ManagersHere slot) (area_start image) lifted

@@ -13,7 +13,7 @@ whose {old} front c back {slot} h there s low high =
       | inl early ↦ let up = IsBody-high _ front slot place early in absurd (omega (arith, up, low, there))
       | inr rest ↦ elim rest [
         | inl here ↦ subst (λ (n : ℕ). BodyHere slot (u32_at old slot) n c) (sym there) here
-        | inr late ↦ let down = IsBody-low _ back slot _ late in absurd (omega (arith, down, high, there))
+        | inr late ↦ let down = IsBody-low _ _ _ _ late in absurd (omega (arith, down, high, there))
       ]
     ]
 
@@ -54,10 +54,10 @@ module _ {gap : ℕ} {u : Lift gap} {image : List ℕ} {done : List Chunk} {c : 
       let starts = start_listed u.old image l.tables in
       let at_is : at ≡ area_start image + total front = omega (arith, l.there, more, starts) in
       let tiles : Tiles image (front ++ carried gap c ∷ others) = rw (← (append_assoc u.before (free gap ∷ done) (carried gap c ∷ others))) at l.tiles in
-      let parts = SpelledAll-split image (area_start image) front (carried gap c ∷ others) (length image) tiles.area in
+      let parts = SpelledAll-split image (area_start image) front _ (length image) tiles.area in
       let spelled : Spelled image at (carried gap c) = rw (← at_is) at parts.1.0 in
-      let units = total_whole image (area_start image) front (area_start image + total front) parts.0 in
-      let in_front = (SpelledAll-split image (area_start image) u.before (free gap ∷ done) (area_start image + total front) parts.0).1 in
+      let units = total_whole image (area_start image) front _ parts.0 in
+      let in_front = (SpelledAll-split image _ u.before (free gap ∷ done) _ parts.0).1 in
       record {
         was = area_start u.old + total (u.before ++ done);
         was_is = refl;
@@ -164,11 +164,11 @@ module _ {gap : ℕ} {u : Lift gap} {image : List ℕ} {done : List Chunk} {byte
     step_mended {new} reslots new_is =
         let m = mendable in let there = m.next.there in
         let inside : at + need (length bytes) ≤ length image = m.next.inside in
-        let word = wrote_word mid _ slot (at + 8) new_is (omega (arith, m.facts.inside, head_wrote.len)) in
+        let word = wrote_word mid _ slot _ new_is (omega (arith, m.facts.inside, head_wrote.len)) in
         let w : WroteArea image new at (at + total (carried gap c ∷ [])) = record {
           mid = mid;
           slot = slot;
-          area = wrote_wider _ _ _ _ at (at + total (carried gap c ∷ [])) head_wrote (omega arith) (omega arith);
+          area = wrote_wider _ _ _ _ at _ head_wrote (omega arith) (omega arith);
           word = word;
           is_slot = inr m.is_slot;
           there = m.area;
@@ -206,8 +206,8 @@ module _ {gap : ℕ} {u : Lift gap} {image : List ℕ} {done : List Chunk} {byte
             | inr isnt ↦ slots other o isnt ∙ l.kept other o (elim out [ inl low ↦ inl low | inr beyond ↦ inr (omega (arith, beyond)) ])
           ];
           plain = subst (λ (k : ℕ). u32_at new (k + total u.before) ≡ u32_at image (k + total u.before)) m.next.starts in_front.1.0 ∙ l.plain;
-          front = words_then u.old image new (area_start u.old) u.before l.front (rw m.next.starts at in_front.0);
-          back = words_then u.old image new (at + need (length bytes) + total rest) u.after (rw was at l.back) (rw is at behind.1);
+          front = words_then u.old image new _ u.before l.front (rw m.next.starts at in_front.0);
+          back = words_then u.old image new _ u.after (rw was at l.back) (rw is at behind.1);
         }
 
 -- ---- the header that is read

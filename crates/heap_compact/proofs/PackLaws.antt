@@ -60,8 +60,8 @@ module _ {old : List ℕ} {at room : ℕ} (h : HeapAccepted old) (b : IsBehindRo
   pub behind_spelled : Spelled old at b.chunk
   behind_spelled =
       let heap = heap_in_parts _ _ h b.chunks in
-      let one = SpelledAll-split old (area_start old) b.before (gap room ++ b.chunk ∷ b.after) (length old) heap.tiles.area in
-      let two = SpelledAll-split old (area_start old + total b.before) (gap room) (b.chunk ∷ b.after) (length old) one.1 in
+      let one = SpelledAll-split old (area_start old) b.before _ (length old) heap.tiles.area in
+      let two = SpelledAll-split old _ (gap room) (b.chunk ∷ b.after) (length old) one.1 in
       subst (λ (n : ℕ). Spelled old n b.chunk) (omega (arith, b.there, gap_total room)) two.1.0
 
   behind_header : {header : Header} → HasHeader old at header → header ≡ header_of b.chunk
@@ -364,5 +364,5 @@ join_misses {m} {at} {room} {n} h b found =
     let least : 8 ≤ n = (joins h.accepted b found refl).is_free.header_fits in
     let t = total-append (gap room) (free n ∷ []) in
     let e = with_chunk h.accepted b (free n) (is_free h.accepted b found refl) ∙ ap (λ cs. b.before ++ cs) (sym (append_assoc (gap room) (free n ∷ []) b.after)) in
-    let lent = loose_misses m b.before (gap room ++ free n ∷ []) b.after (at - room) h.lent e (omega (arith, b.there)) (gap_loose room n) in
-    part_misses m.lents (at - room) (total (gap room ++ free n ∷ [])) (at - room) 8 lent (omega arith) (omega (arith, t, least))
+    let lent = loose_misses m _ _ b.after _ h.lent e (omega (arith, b.there)) (gap_loose room n) in
+    part_misses m.lents (at - room) _ (at - room) 8 lent (omega arith) (omega (arith, t, least))

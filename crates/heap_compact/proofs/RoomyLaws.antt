@@ -59,7 +59,7 @@ module _ {image : List ℕ} {size start here room : ℕ} (r : SeenRooms image si
       let stay_c = header_stay f.chunk (subst HeaderStays f.header_is stay) in
       let short = short_behind size closed run (f.chunk ∷ []) ([] ∷ []) r.seen.ends r.seen.none_stays (stay_alone f.chunk stay_c) refl r.short (omega (arith, r.room_is, low)) in
       record {
-        seen = seen_closed image start (here + taken) start here taken header r.seen f e stay (omega arith);
+        seen = seen_closed image start _ start here taken header r.seen f e stay (omega arith);
         room_is = refl;
         short = rw (← (append_assoc closed run (f.chunk ∷ []))) at short;
       }

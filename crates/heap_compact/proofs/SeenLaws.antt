@@ -45,7 +45,7 @@ ends_push (d ∷ e ∷ xs) c s = ends_push (e ∷ xs) c s
 pub unlocked_there : {image : List ℕ} {at name count : ℕ} → HeapAccepted image → (u : IsUnlocked image at name count) → SpelledAll image (area_start image) u.before at × Spelled image at (movable u.bytes 0 u.owner name)
 unlocked_there {image} {name} h u =
     let heap = heap_in_parts _ _ h u.chunks in
-    let parts = SpelledAll-split image (area_start image) u.before (movable u.bytes 0 u.owner name ∷ u.after) (length image) heap.tiles.area in
+    let parts = SpelledAll-split image _ u.before _ (length image) heap.tiles.area in
     (rw (← u.there) at parts.0, rw (← u.there) at parts.1.0)
 
 pub seen_start : {image : List ℕ} {at name count start : ℕ} → HeapAccepted image
@@ -147,7 +147,7 @@ module _ {image : List ℕ} {at name count start here : ℕ} (h : HeapAccepted i
   around after low chunks begins =
       let begin : ℕ = area_start image + total closed in let t = unlocked_there h u in
       let parts = SpelledAll-split image (area_start image) closed run here s.spelled in
-      let front = SpelledAll-rest image (area_start image) closed u.before begin at parts.0 t.0 (omega (arith, s.from, s.low)) in
+      let front = SpelledAll-rest image _ _ _ begin at parts.0 t.0 (omega (arith, s.from, s.low)) in
       let rest = SpelledAll-rest image begin front.0 run at here front.2 parts.1 (omega (arith, low)) in
       let back = found_back image at here v front.0 rest.0 rest.1 rest.2 t.1 low in
       record {

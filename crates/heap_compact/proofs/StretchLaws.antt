@@ -46,7 +46,7 @@ stay_live (fixed bytes owner) stay = tt
 end_split : (c : Chunk) (cs : List Chunk) → EndsStaying (c ∷ cs)
     → (front : List Chunk) × (last : Chunk) × (c ∷ cs ≡ front ++ last ∷ []) × IsNotFree last
 end_split c [] stay = ([], c, refl, stay_live c stay)
-end_split c (d ∷ cs) stay = let e = end_split d cs stay in (c ∷ e.0, e.1, ap (λ xs. c ∷ xs) e.2, e.3)
+end_split c (d ∷ cs) stay = let e = end_split d _ stay in (c ∷ e.0, e.1, ap (λ xs. c ∷ xs) e.2, e.3)
 
 staying_keeps : (cs : List Chunk) → EndsStaying cs → KeepsApart cs
 staying_keeps [] stay = λ others. refl
@@ -149,7 +149,7 @@ module _ {old mid : List ℕ} {at name count : ℕ} {stretch : Stretch} {room : 
   chunks_then = packed_image.exact ∙ ap (λ (cs : List Chunk). a.before ++ (cs ++ a.after)) packed_is
 
   heap_then : IsHeap mid ((a.before ++ fore) ++ v ∷ (rear ++ (gap room ++ a.after)))
-  heap_then = heap_in_parts _ _ packed_frame.accepted (chunks_then ∙ regroup_around _ fore rear _ _ v)
+  heap_then = heap_in_parts _ _ packed_frame.accepted (chunks_then ∙ regroup_around _ _ rear _ _ v)
 
   pub starts : area_start mid ≡ area_start old
   starts = exactly_start packed_image
@@ -174,9 +174,9 @@ module _ {old mid : List ℕ} {at name count : ℕ} {stretch : Stretch} {room : 
   inside : stretch.end ≤ length old
   inside =
       let heap = heap_in_parts _ _ h a.is.whole.chunks in
-      let one = SpelledAll-split old (area_start old) a.before ((a.front ++ v ∷ a.back) ++ a.after) (length old) heap.tiles.area in
-      let two = SpelledAll-split old (area_start old + total a.before) (a.front ++ v ∷ a.back) a.after (length old) one.1 in
-      let last = SpelledAll-end old (area_start old + total a.before + total (a.front ++ v ∷ a.back)) a.after (length old) two.1 in
+      let one = SpelledAll-split old (area_start old) a.before _ (length old) heap.tiles.area in
+      let two = SpelledAll-split old _ (a.front ++ v ∷ a.back) a.after (length old) one.1 in
+      let last = SpelledAll-end old _ a.after (length old) two.1 in
       omega (arith, a.is.from, a.is.to, last)
 
   -- what is worked out fits
@@ -202,7 +202,7 @@ module _ {old mid : List ℕ} {at name count : ℕ} {stretch : Stretch} {room : 
         after = a.after;
         chunks = chunks_then ∙ ap (λ (g : List Chunk). a.before ++ (((fore ++ v ∷ rear) ++ g) ++ a.after)) (gap_some room some) ∙ regroup a.before fore rear a.after v (free room);
         live = lives_twice a.back;
-        loose = loose_lives a.back ((none_stays-append a.front (v ∷ a.back)).0 a.is.whole.none_stays).1;
+        loose = loose_lives a.back ((none_stays-append a.front _).0 a.is.whole.none_stays).1;
         from = omega (arith, start_is, place_is, one, two, starts, a.is.from, many);
         to = omega (arith, start_is, place_is, ends, many);
       }
