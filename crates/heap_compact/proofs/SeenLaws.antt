@@ -169,7 +169,7 @@ module _ {image : List ℕ} {at name count start here : ℕ} (h : HeapAccepted i
   others : (after : List Chunk) × (chunks_of image ≡ (closed ++ run) ++ after) × SpelledAll image here after (length image)
   others = chunks_after _ _ (closed ++ run) here h.1.tiles s.spelled s.inside
 
-  pub seen_found : {header : _} → HasHeader image here header → HeaderStays header → at < here
+  pub seen_found : {header : Header} → HasHeader image here header → HeaderStays header → at < here
       → IsAmongAt image at name count (record { start = start; end = here })
   seen_found f stay low =
       around _ low others.1 (begins_there _ here _ _ others.2 f.spelled (header_stay _ (subst HeaderStays f.header_is stay)))

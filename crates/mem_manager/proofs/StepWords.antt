@@ -101,12 +101,11 @@ found_callers (Err refusal) h f is positive = tt
 pub callers_viewed : {inside value : Memory} {name : ℕ} {found : Found} → inside ≡ value
     → HoldsHeap inside → IsFound value.bytes name found → 1 ≤ found.owner
     → IsCallers inside name found
-callers_viewed {name =
-    name} {found = found} view h f positive = record {
-      heap = h;
-      is = rw (← view) at f;
-      callers = positive;
-    }
+callers_viewed {name = name} {found = found} view h f positive = record {
+  heap = h;
+  is = rw (← view) at f;
+  callers = positive;
+}
 
 -- ---- calls that leave the region as it is
 

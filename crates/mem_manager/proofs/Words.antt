@@ -15,7 +15,7 @@ pub use Rattle.std.specs.Prelude.{count_by, if◌then◌else◌, slice_index, sl
 pub use Rattle.std.specs.Prelude.{◌/◌, ◌==◌, ◌↔◌, ◌⊎◌}
 pub use Rattle.heap_model.specs.Bytes.{overwritten, u32_at}
 pub use Rattle.heap_model.specs.Chunk.{Chunk, Spelled, data_owner, fixed, fixed_lock, free}
-pub use Rattle.heap_model.specs.Chunk.{free_size, is_fixed, is_movable, is_owned_by, managers_owner}
+pub use Rattle.heap_model.specs.Chunk.{free_size, is_fixed, is_movable, is_owned_by}
 pub use Rattle.heap_model.specs.Chunk.{movable, need, size_of, total}
 pub use Rattle.heap_model.specs.Heap.{HeapAccepted, directory_of}
 pub use Rattle.heap_model.specs.Layout.{Alters, Becomes, Claims, IsSpot, layout_of, owned_freed}
@@ -31,7 +31,7 @@ pub use Rattle.heap_model.specs.MemorySteps.{Does, Frames, IsLocked, IsNoCaller,
 pub use Rattle.heap_model.specs.MemorySteps.{MemoryCall, MemoryStep, Of, ReachesBeyond}
 pub use Rattle.heap_model.specs.MemorySteps.{growth_checks, lent_out, may_slide, reply_of, row_of}
 pub use Rattle.heap_model.specs.MemorySteps.{text_of, unknown, where_it}
-pub use Rattle.heap_model.specs.Packing.{Packed, Slid, SlidesOneStretch, packed}
+pub use Rattle.heap_model.specs.Packing.{SlidesOneStretch, packed}
 pub use Rattle.heap_model.specs.Placing.{Finds, SameFrame}
 pub use Rattle.heap_model.specs.Reading.{chunks_of, held}
 pub use Rattle.heap_model.specs.Refusals.{Check, FirstBrings, NoneHolds, ◌brings◌}
@@ -39,7 +39,7 @@ pub use Rattle.heap_model.specs.Slots.{IsSlot, area_start, is_chained, slots_of,
 pub use Rattle.heap_model.specs.Slots.{tables_of}
 pub use Rattle.heap_model.specs.Space.{FitsInPlace, MovesNothing, MovesOneStretch}
 pub use Rattle.heap_model.specs.Space.{MovesOneStretchAnd, Short, ShortFor, Still, free_behind}
-pub use Rattle.heap_model.specs.Space.{free_front, free_slots, moved_bytes, place_of, place_under}
+pub use Rattle.heap_model.specs.Space.{free_front, moved_bytes, place_of, place_under}
 pub use Rattle.heap_model.specs.Store.{bytes_of, bytes_under, owner_of, owner_under}
 pub use Rattle.heap_model.specs.declared.call.Reply.{Reply}
 pub use Rattle.heap_model.specs.declared.names.Name.{Name}
