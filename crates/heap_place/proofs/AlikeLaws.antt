@@ -15,10 +15,12 @@ alike_at : {old new : List ℕ} {at : ℕ} (before : List Chunk) → SameChunks 
     → at ≡ area_start old + total before → at ≡ area_start new + total before
 alike_at {old} {new} before s there = there ∙ ap (λ n. n + total before) (sym (frame_start old new s.frame))
 
-pub alike_chunk : {old new : List ℕ} {at size : ℕ} → SameChunks old new → IsFreeChunk old at size → IsFreeChunk new at size
+pub alike_chunk : {old new : List ℕ} {at size : ℕ} → SameChunks old new → IsFreeChunk old at size
+    → IsFreeChunk new at size
 alike_chunk s f = record { before = f.before; after = _; chunks = s.chunks ∙ f.chunks; there = alike_at _ s f.there }
 
-pub alike_spot : (old new : List ℕ) (at size : ℕ) → SameChunks old new → IsSpot old at size → IsSpot new at size
+pub alike_spot : (old new : List ℕ) (at size : ℕ) → SameChunks old new → IsSpot old at size
+    → IsSpot new at size
 alike_spot old new at size s r = record { before = r.before; run = r.run; after = _; chunks = s.chunks ∙ r.chunks; all_free = r.all_free; there = alike_at _ s r.there; sums = r.sums }
 
 pub alike_cuts : {old mid : List ℕ} (new : List ℕ) (at room size : ℕ) → SameChunks old mid
@@ -35,8 +37,7 @@ alike_becomes {old} {mid} {new} s b = record { frame = frame_then old mid new s.
 pub alike_behind : (old new : List ℕ) (found : Found) (behind : ℕ) → SameChunks old new
     → RunBehind old found behind → RunBehind new found behind
 alike_behind old new found behind s r =
-    let o = r.one in let f = o.finds in
-    record {
+    let o = r.one in let f = o.finds in record {
       one = record {
         live = o.live;
         chunk = o.chunk;
@@ -80,7 +81,8 @@ taken_outside {new} {size} s f lists =
     lists_weaker _ _ new _ (λ x b apart. others_outside _ size _ x s.frame.accepted g.chunks g.there b apart) lists
 
 pub linked_past : {old new heads : List ℕ} {class before at word : ℕ} → HeapAccepted old → HasLists old heads → class < class_count → LeadsTo old heads class before at → IsFreeOf old class at → before ≢ 0 → word ≡ second_of old at → word < 2 ^ 32
-    → new ≡ overwritten old (before + 4) (u32_bytes word) → SameChunks old new × AreLists (ButAt at) new heads
+    → new ≡ overwritten old (before + 4) (u32_bytes word)
+    → SameChunks old new × AreLists (ButAt at) new heads
 linked_past {before} {word} h lists below leads f some word_is small is =
     let k = begun_chunk before h (looked_free leads.looking some).begins in
     let l = linked word h k small is in (

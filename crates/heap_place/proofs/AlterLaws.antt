@@ -22,7 +22,8 @@ relocks (free size) h f k loose owned re w = absurd f.named
 relocks {old} {new} {name} {at} {lock} {found} {live} (movable bytes count holder slot) h f k loose owned re w =
     let s = finds_spelled old name live (movable bytes count holder slot) at h f in
     let same : found.owner ≡ holder = k.owner_is ∙ same_owner (sym f.named.1) in
-    movable_relabelled old new name at live _ _ _ _ slot lock _ h f (λ directory none. none) w (re bytes count holder slot (rw same at owned) s) refl
+    movable_relabelled old new name at live _ _ _ _ slot lock _ h f (λ directory none. none) w
+    (re bytes count holder slot (rw same at owned) s) refl
 relocks {at} {live} (fixed bytes holder) h f k loose owned re w = let e = same_lock (fixed_live_is at _ _ f.named) in absurd (omega arith)
 
 pub relocked_there : {old new : List ℕ} {found : Found} {lock : ℕ} (word : ℕ) → HeapAccepted old → IsOne old found → found.lock < fixed_lock → (lock ≡ 0) ⊎ (0 < found.owner) → Relocks old new (found.place.0 - 8) lock → new ≡ overwritten old (found.place.0 - 8 + 4) (u32_bytes word) → Alters old new (found.place.0 - 8) (with_lock lock) × WritesPlain old new
@@ -32,7 +33,8 @@ relocked_there {old} {new} {found} {lock} word h f loose owned re is =
 
 -- ---- another owner
 
-may_stand : (count : ℕ) {lock : ℕ} (owner : ℕ) → lock ≡ count → (0 < lock → 0 < owner) → (count ≡ 0) ⊎ (0 < owner)
+may_stand : (count : ℕ) {lock : ℕ} (owner : ℕ) → lock ≡ count → (0 < lock → 0 < owner)
+    → (count ≡ 0) ⊎ (0 < owner)
 may_stand zero owner e locked = inl refl
 may_stand (suc count) owner e locked = inr (locked (omega arith))
 
@@ -41,12 +43,14 @@ reowns (free size) h f k can re w = absurd f.named
 reowns {old} {new} {name} {at} {owner} {found} {live} (movable bytes count holder slot) h f k can re w =
     let s = finds_spelled old name live (movable bytes count holder slot) at h f in
     let same : found.lock ≡ count = k.lock_is ∙ same_lock (sym f.named.1) in
-    movable_relabelled old new name at live _ _ _ _ slot _ _ h f (λ at_directory none. can.directory (k.name_is ∙ sym f.named.0 ∙ at_directory)) w
+    movable_relabelled old new name at live _ _ _ _ slot _ _ h f
+    (λ at_directory none. can.directory (k.name_is ∙ sym f.named.0 ∙ at_directory)) w
     (re.movable_too bytes count holder slot (may_stand count owner same can.locked) s) refl
 reowns {old} {new} {name} {at} {owner} {found} {live} (fixed bytes holder) h f k can re w =
     let s = finds_spelled old name live (fixed bytes holder) at h f in
     let is : found.lock ≡ fixed_lock = k.lock_is ∙ same_lock (sym (fixed_live_is at _ _ f.named)) in
-    fixed_relabelled old new name at live _ _ _ _ h f (can.locked (omega arith)) (can.fixed is) w (re.fixed_too bytes holder (fixed_owned at _ _ f.named) (can.locked (omega arith)) s) refl
+    fixed_relabelled old new name at live _ _ _ _ h f (can.locked (omega arith)) (can.fixed is) w
+    (re.fixed_too bytes holder (fixed_owned at _ _ f.named) (can.locked (omega arith)) s) refl
 
 pub reowned_there : {old new : List ℕ} {found : Found} {owner : ℕ} (word : ℕ) → HeapAccepted old → IsOne old found → CanGoTo old found owner → Reowns old new (found.place.0 - 8) owner → new ≡ overwritten old (found.place.0 - 8 + 4) (u32_bytes word) → Alters old new (found.place.0 - 8) (with_owner owner) × WritesPlain old new
 reowned_there {old} {new} {found} {owner} word h f can re is =
@@ -59,5 +63,6 @@ pub written_there : (old new : List ℕ) (found : Found) (at : ℕ) (part : List
 written_there old new found at part h f within is =
     let there : found.place.0 - 8 + 8 ≡ found.place.0 = omega arith in
     let place : ℕ = found.place.0 - 8 in
-    let done = body_written old new _ place at f.live f.chunk part h f.finds (omega arith) (is ∙ ap (λ n. overwritten old (n + at) part) (sym there)) in
+    let done = body_written old new _ place at f.live f.chunk part h f.finds (omega arith)
+    (is ∙ ap (λ n. overwritten old (n + at) part) (sym there)) in
     (changed_there old new found (with_bytes at part) h f done.0, done.1)

@@ -11,7 +11,8 @@ pub free_header : (size : ℕ) (c : Chunk) → headers.Free size ≡ header_of c
 free_header size (free n) e = let same : size ≡ n = cc in ap free (sym same)
 free_header size c e = absurd cc
 
-pub has_free : (image : List ℕ) (at size : ℕ) → HasHeader image at (headers.Free size) → IsFree image at size
+pub has_free : (image : List ℕ) (at size : ℕ) → HasHeader image at (headers.Free size)
+    → IsFree image at size
 has_free image at size h = rw (free_header size h.chunk h.header_is) at h.spelled
 
 -- ---- a run is carved
@@ -42,7 +43,8 @@ gap_plain old {mid} {new} {at} size at_rest (suc n) e least inside small whole w
 
 -- and so has what was cut off
 cut_plain : (old mid : List ℕ) {new : List ℕ} (at size rest : ℕ) → 8 ≤ size → at + size + rest ≤ length mid → size + rest < 2 ^ 24 → rest % 8 ≡ 0 → new ≡ overwritten mid at (u32_bytes (2 ^ 31 + size)) → WroteRest old mid (at + size) rest → length mid ≡ length old
-    → (there : ℕ) → AnyPlaced (IsFreeAt there) at (free size ∷ gap rest) → IsPlain (u32_at new there)
+    → (there : ℕ) → AnyPlaced (IsFreeAt there) at (free size ∷ gap rest)
+    → IsPlain (u32_at new there)
 cut_plain old mid {new} at size rest least inside small whole is r len =
     free_plain new at size _ (ap (λ x. u32_at x at) is ∙ u32_at-written _ at mid (omega arith) (omega arith)) (omega arith)
     (gap_plain old size _ rest refl least inside (omega arith) whole (wrote_wider mid new at _ at _ (wrote_word mid new at _ is (omega arith)) (omega arith) (omega arith)) r len)
@@ -60,13 +62,15 @@ was_cut {old} mid {new} {at} {room} size accepted r least whole within wrote is 
     let area : WroteArea old new at (at + room) = record { mid = new; slot = at; area = all; word = wrote_none new at (at + 4); is_slot = inl refl; there = omega arith; fits = omega arith } in
     let others : List Chunk = free size ∷ gap rest in
     let spelled : SpelledAll new at others (at + total r.run) = (has_free new at size header, gap_spelled old size (at + size) rest (at + total r.run) refl (omega arith) least (omega arith) (second.len) (wrote_wider mid new at (at + 4) at (at + 8) second (omega arith) (omega arith)) wrote) in
-    let replaces = area_replaces old new r.before r.run others r.after at heap.tiles (free_hold_none r.run r.all_free) r.there m.inside (rw sums at area) spelled in
+    let replaces = area_replaces old new r.before r.run others r.after at heap.tiles
+    (free_hold_none r.run r.all_free) r.there m.inside (rw sums at area) spelled in
     let slots = wrote_slots old new r.before r.run r.after at heap.tiles (free_hold_none r.run r.all_free) r.there (rw sums at all) in
     let new_heap = free_replaced old new r.before r.run others r.after at heap replaces slots r.all_free (gap_free rest) in
     let sizes = replaced_total old new r.before r.run others r.after at replaces in
     let alike = merged-left others r.run r.after (runs-merged others r.run (gap_free rest) r.all_free (omega arith) sizes) in
     let all_alike = merged-right r.before (others ++ r.after) (r.run ++ r.after) alike ∙ ap merged (sym r.chunks) in
-    let becomes = becomes_alike old new (r.before ++ (others ++ r.after)) (chunks_of old) all_alike (becomes_heap old new (r.before ++ (others ++ r.after)) replaces.head new_heap) in (
+    let becomes = becomes_alike old new (r.before ++ (others ++ r.after)) (chunks_of old) all_alike
+    (becomes_heap old new (r.before ++ (others ++ r.after)) replaces.head new_heap) in (
       becomes,
       chunks_of-tiled new (r.before ++ (others ++ r.after)) new_heap.tiles,
       λ there out b. keeps_replaced old new r.before r.run others r.after at accepted r.chunks new_heap replaces there
@@ -137,7 +141,8 @@ claimed_area old {h} {z} at count owner slot inside h_is z_is =
     let words : List ℕ = live_words count 0 owner (h_offset_to at slot) in
     let eight = live_words_length count 0 owner (h_offset_to at slot) in
     let zeros : length (replicate {A = ℕ} count 0) ≡ count = length-replicate count 0 in
-    let header = wrote_wider old h at (at + length words) at (at + need count) (wrote_part old h at words h_is (omega arith)) (omega arith) (omega arith) in
+    let header = wrote_wider old h at (at + length words) at (at + need count)
+    (wrote_part old h at words h_is (omega arith)) (omega arith) (omega arith) in
     let body = wrote_part h z (at + 8) (replicate count 0) z_is (omega arith) in
     wrote_then old h z at (at + need count) header (wrote_wider h z (at + 8) (at + 8 + length (replicate count 0)) at (at + need count) body (omega arith) (omega arith))
 
@@ -147,7 +152,8 @@ claimed_table {old} {z} {at} count owner {slot} accepted r s h_is z_is =
     let size : ℕ = need count in
     let heap = heap_in_parts old (r.before ++ free size ∷ r.after) accepted r.chunks in
     let facts = cut_facts accepted r in let e : size ≡ size + 0 = omega arith in
-    table_kept old z r.before (free size ∷ []) r.after at slot heap.tiles tt r.there (rw e at (claimed_area old at count owner slot facts.0 h_is z_is)) s
+    table_kept old z r.before (free size ∷ []) r.after at slot heap.tiles tt r.there
+    (rw e at (claimed_area old at count owner slot facts.0 h_is z_is)) s
 
 pub claimed_write : {old h z new : List ℕ} {at : ℕ} (count owner : ℕ) {slot : ℕ} → HeapAccepted old
     → (r : IsFreeChunk old at (need count)) → IsSlot old slot → u32_at old slot ≡ 0
@@ -170,7 +176,8 @@ claimed_write {old} {h} {z} {new} {at} count owner {slot} accepted r s empty h_i
     let second = beside_word z new slot at (at + (size + 0)) (at + 4) word beside (omega arith) (omega arith) (omega arith) ∙ wrote_word_apart h z (at + 8) (at + 8 + length (replicate count 0)) (at + 4) w2' (inl (omega arith)) in
     let body : slice_range new (at + 8) (at + 8 + count) ≡ replicate count 0 =
     sym (slice-same (at + 8) (at + 8 + count) z new (beside_same z new slot at (at + (size + 0)) (at + 8) (at + 8 + count) word beside (omega arith) (omega arith) (omega arith)) (omega arith) (omega arith))
-    ∙ ap (λ x. take (at + 8 + count - (at + 8)) (drop (at + 8) x)) z_is ∙ slice-overwritten h (at + 8) (replicate count 0) count zeros (omega arith) in
+    ∙ ap (λ x. take (at + 8 + count - (at + 8)) (drop (at + 8) x)) z_is
+    ∙ slice-overwritten h (at + 8) (replicate count 0) count zeros (omega arith) in
     let spelled = zeroed new count 0 owner slot header (omega arith) first second body in
     let is : at ≡ area_start old + total r.before = r.there in
     let wrote = subst (λ n. WroteArea old new at (at + n)) (let e : size ≡ size + 0 = omega arith in e)
@@ -214,7 +221,8 @@ fixed_claimed {old} {mid} {new} {at} count owner h r some most mid_is header new
     let len : length m.0 ≡ count = m.1.1 in let front : at + 8 ≡ at + 8 + 0 = omega arith in
     let b = overwritten_body mid new at 0 m.0 (replicate count 0) _ owner 0 (plain-callers fixed_lock owner some) s (omega arith) (new_is ∙ ap (λ n. overwritten mid n (replicate count 0)) front) in
     let spelled = rw (overwritten_whole m.0 (replicate count 0) (zeros ∙ sym len)) at b.0 in
-    let first = wrote_wider old mid at (at + 8) at (at + need count) (wrote_words old mid at count fixed_lock owner 0 inside mid_is) (omega arith) (omega arith) in
+    let first = wrote_wider old mid at (at + 8) at (at + need count)
+    (wrote_words old mid at count fixed_lock owner 0 inside mid_is) (omega arith) (omega arith) in
     let both = wrote_then old mid new at (at + need count) first (rw len at b.1) in
     let size : need count + 0 ≡ need count = omega arith in
     let area = subst (λ n. WroteArea old new at (at + n)) (sym size) record { mid = new; slot = at; area = both; word = wrote_none new at (at + 4); is_slot = inl refl; there = omega arith; fits = omega arith } in

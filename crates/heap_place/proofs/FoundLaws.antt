@@ -5,10 +5,12 @@ use Rattle.laws_heap.proofs.Accepted.{heap_of_read}
 -- ---- chunks of a heap
 
 -- the chunks that are read off an accepted heap, in parts
-pub heap_in_parts : (image : List ℕ) (cs : List Chunk) → HeapAccepted image → chunks_of image ≡ cs → IsHeap image cs
+pub heap_in_parts : (image : List ℕ) (cs : List Chunk) → HeapAccepted image → chunks_of image ≡ cs
+    → IsHeap image cs
 heap_in_parts image cs h e = subst (λ xs. IsHeap image xs) e (heap_of_read image h.0 h.1)
 
-pub total_whole : (image : List ℕ) (at : ℕ) (cs : List Chunk) (end : ℕ) → SpelledAll image at cs end → total cs % 8 ≡ 0
+pub total_whole : (image : List ℕ) (at : ℕ) (cs : List Chunk) (end : ℕ) → SpelledAll image at cs end
+    → total cs % 8 ≡ 0
 total_whole image at [] end s = refl
 total_whole image at (c ∷ cs) end s =
     let ih = total_whole image (at + size_of c) cs end s.1 in
@@ -30,8 +32,7 @@ middle_of image before mid after at h e =
     let a = SpelledAll-split image start before (mid ++ after) (length image) h.tiles.area in
     let b = SpelledAll-split image (start + total before) mid after (length image) a.1 in
     let end = SpelledAll-end image (start + total before + total mid) after (length image) b.1 in
-    let front = total_whole image start before (start + total before) a.0 in
-    record {
+    let front = total_whole image start before (start + total before) a.0 in record {
       there = e;
       spelled = subst (λ n. SpelledAll image n mid (n + total mid)) (sym e) b.0;
       behind = subst (λ n. SpelledAll image (n + total mid) after (length image)) (sym e) b.1;
@@ -59,7 +60,8 @@ own_slot image name at live bytes lock owner slot h f =
     ((heap.tied slot place (omega arith)).1 (AnyPlaced-mid _ _ _ _ _ here)).0
 
 -- a chunk of a name is no table
-pub no_slots : (name : ℕ) (live : LiveChunk) (at : ℕ) (c : Chunk) → NamedHere name live at c → HoldNoSlots (c ∷ [])
+pub no_slots : (name : ℕ) (live : LiveChunk) (at : ℕ) (c : Chunk) → NamedHere name live at c
+    → HoldNoSlots (c ∷ [])
 no_slots name live at (free size) n = absurd n
 no_slots name live at (movable bytes lock owner slot) n = tt
 no_slots name live at (fixed bytes owner) n = (fixed_owned at bytes owner n, tt)
@@ -73,11 +75,13 @@ pub record Fields (name : ℕ) (live : LiveChunk) (found : Found) : Type 0 where
   pub lock_is : found.lock ≡ live.lock
   pub owner_is : found.owner ≡ live.owner
 
-pub fields_of : {image : List ℕ} {name : ℕ} {found : Found} → (f : IsFound image name found) → Fields name f.live found
+pub fields_of : {image : List ℕ} {name : ℕ} {found : Found} → (f : IsFound image name found)
+    → Fields name f.live found
 fields_of f = record { name_is = f.name_is; count = f.count; lock_is = f.lock_is; owner_is = f.owner_is }
 
 -- what the whole chunk takes
-pub found_size : (image : List ℕ) (found : Found) → (f : IsOne image found) → need found.length ≡ size_of f.chunk
+pub found_size : (image : List ℕ) (found : Found) → (f : IsOne image found)
+    → need found.length ≡ size_of f.chunk
 found_size image found f = ap need f.count ∙ named_size _ _ _ _ f.finds.named
 
 -- where it lies

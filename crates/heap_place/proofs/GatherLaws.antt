@@ -8,11 +8,13 @@ use Rattle.heap_place.proofs.RunLaws.{from_bound, a_chunk_there}
 
 -- ---- where chunks begin
 
-pub bound_chunk : {image : List ℕ} {at : ℕ} → HeapAccepted image → IsBound image at → at < length image → HasChunk image at
+pub bound_chunk : {image : List ℕ} {at : ℕ} → HeapAccepted image → IsBound image at
+    → at < length image → HasChunk image at
 bound_chunk h b inside = a_chunk_there (from_bound h b) inside
 
 -- the free chunks with which those begin
-pub bound_spot : {image : List ℕ} {at size : ℕ} → IsBound image at → BeginsWithFree image at size → IsSpot image at size
+pub bound_spot : {image : List ℕ} {at size : ℕ} → IsBound image at → BeginsWithFree image at size
+    → IsSpot image at size
 bound_spot b begins =
     let p = front_parts b.after in let is = begins b.before b.after b.ends in
     record { before = b.before; run = p.run; after = _; chunks = b.ends.chunks ∙ ap (λ cs. b.before ++ cs) p.parts; all_free = p.all_free; there = b.ends.there; sums = is ∙ sym p.sums }
@@ -30,7 +32,8 @@ bound_after image before c after size e there is =
     record { before = before ++ c ∷ []; after = _; ends = record { chunks = e ∙ sym (append_assoc before (c ∷ []) after); there = omega arith } }
 
 -- after a free chunk
-pub chunk_bound : {image : List ℕ} {at size : ℕ} → IsFreeChunk image at size → IsBound image (at + size)
+pub chunk_bound : {image : List ℕ} {at size : ℕ} → IsFreeChunk image at size
+    → IsBound image (at + size)
 chunk_bound {size} f = bound_after _ _ _ _ size f.chunks f.there refl
 
 -- after a chunk whose header is read
@@ -60,7 +63,8 @@ header_bound {image} {at} {header} h b found = by_after b.after b.ends.chunks wh
 
 pub gathered_lists : {old mid new heads after : List ℕ} {at : ℕ} (size : ℕ) → 8 ≤ size → AreLists (Before at) old heads → KeepsFree (Outside at size) old mid → Pushes mid new heads after at → AreLists (Before (at + size)) new after
 gathered_lists {old} {mid} size least a keeps p =
-    push_lists _ _ (lists_kept _ old mid _ (λ x before b. keeps x (inl before) b) a) (λ x b before. (omega arith, λ e. omega arith)) (omega arith) p
+    push_lists _ _ (lists_kept _ old mid _ (λ x before b. keeps x (inl before) b) a)
+    (λ x b before. (omega arith, λ e. omega arith)) (omega arith) p
 
 pub passed_lists : {image heads : List ℕ} (at more : ℕ) → AreLists (Before at) image heads
     → AreLists (Before (at + more)) image heads

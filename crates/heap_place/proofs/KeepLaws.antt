@@ -11,7 +11,8 @@ NotAmong at mid there = AnyPlaced (IsFreeAt there) at mid → ⊥
 
 pub keeps_tiled : {old new : List ℕ} {before mid others after : List Chunk} {at : ℕ} → chunks_of old ≡ before ++ (mid ++ after) → Tiles new (before ++ (others ++ after)) → Replaces old new before mid others after at
     → KeepsFree (NotAmong at mid) old new
-keeps_tiled {old} {new} {before} {mid} {others} {after} {at} was now r there apart b = elim (AnyPlaced-split (IsFreeAt there) start before (mid ++ after) found) [
+keeps_tiled {old} {new} {before} {mid} {others} {after} {at} was now r there apart b =
+    elim (AnyPlaced-split (IsFreeAt there) start before (mid ++ after) found) [
   | inl front ↦ record {
     begins = is (AnyPlaced-left (IsFreeAt there) start before (others ++ after) front);
     first = free_word old new there start before r.front.words front;
@@ -20,8 +21,7 @@ keeps_tiled {old} {new} {before} {mid} {others} {after} {at} was now r there apa
   | inr rest ↦ elim (AnyPlaced-split (IsFreeAt there) (start + total before) mid after rest) [
     | inl these ↦ absurd (apart (subst (λ n. AnyPlaced (IsFreeAt there) n mid) (sym begins) these))
     | inr back ↦
-        let behind = rw (← begins) at back in let moved = rw (← sums) at back in
-        record {
+        let behind = rw (← begins) at back in let moved = rw (← sums) at back in record {
           begins = is (AnyPlaced-right (IsFreeAt there) start before (others ++ after) (AnyPlaced-right (IsFreeAt there) (start + total before) others after moved));
           first = free_word old new there (at + total mid) after r.back.words behind;
           second = r.back.seconds there behind;
@@ -40,7 +40,8 @@ keeps_tiled {old} {new} {before} {mid} {others} {after} {at} was now r there apa
   found : AnyPlaced (IsFreeAt there) (area_start old) (before ++ (mid ++ after))
   found = subst (λ cs. AnyPlaced (IsFreeAt there) (area_start old) cs) was b
 
-  is : AnyPlaced (IsFreeAt there) (area_start old) (before ++ (others ++ after)) → BeginsFree new there
+  is : AnyPlaced (IsFreeAt there) (area_start old) (before ++ (others ++ after))
+      → BeginsFree new there
   is a = rw (← (same_start old new r.head)) at (rw (← (chunks_of-tiled new _ now)) at a)
 
 pub keeps_replaced : (old new : List ℕ) (before mid others after : List Chunk) (at : ℕ) → HeapAccepted old → chunks_of old ≡ before ++ (mid ++ after) → IsHeap new (before ++ (others ++ after)) → Replaces old new before mid others after at
@@ -55,7 +56,8 @@ outside_apart image before mid after at there h is o these =
     elim o [ inl front ↦ omega arith | inr back ↦ omega arith ]
 
 -- no live chunk is free
-pub live_apart : (at there : ℕ) (c : Chunk) → ((size : ℕ) → c ≡ free size → ⊥) → NotAmong at (c ∷ []) there
+pub live_apart : (at there : ℕ) (c : Chunk) → ((size : ℕ) → c ≡ free size → ⊥)
+    → NotAmong at (c ∷ []) there
 live_apart at there (free size) live these = live size refl
 live_apart at there c live these = elim these [ inl here ↦ here | inr none ↦ none ]
 
@@ -65,7 +67,8 @@ other_apart at size there apart these = elim these [ inl here ↦ apart (sym her
 
 -- a free chunk other than one in parts of the image lies outside of it
 pub others_outside : {image : List ℕ} (before : List Chunk) (size : ℕ) (after : List Chunk) {at : ℕ} (there : ℕ) → HeapAccepted image → chunks_of image ≡ before ++ free size ∷ after → at ≡ area_start image + total before → BeginsFree image there → there ≢ at → Outside at size there
-others_outside {image} before size after there h was is b apart = elim (AnyPlaced-split (IsFreeAt there) (area_start image) before (free size ∷ after) found) [
+others_outside {image} before size after there h was is b apart =
+    elim (AnyPlaced-split (IsFreeAt there) (area_start image) before (free size ∷ after) found) [
   | inl front ↦ let f = free_inside there _ before sizes.0 front in inl (omega arith)
   | inr rest ↦ elim rest [
     | inl here ↦ absurd (apart (omega arith))
@@ -80,7 +83,8 @@ others_outside {image} before size after there h was is b apart = elim (AnyPlace
 
 -- ---- the second word of a free chunk
 
-pub free_there : (image : List ℕ) (at size : ℕ) → HeapAccepted image → IsFreeChunk image at size → IsFree image at size
+pub free_there : (image : List ℕ) (at size : ℕ) → HeapAccepted image → IsFreeChunk image at size
+    → IsFree image at size
 free_there image at size h f = (chunk_middle h f).spelled.0
 
 pub begins_there : {image : List ℕ} {at size : ℕ} → IsFreeChunk image at size → BeginsFree image at
@@ -103,7 +107,8 @@ linked {old} {new} {at} {size} word h f small is =
       inside = subst (λ n. at + size ≤ n) (sym len) was.inside;
     } in
     let area : WroteArea old new at (at + (size + 0)) = record { mid = new; slot = at; area = all; word = wrote_none new at (at + 4); is_slot = inl refl; there = omega arith; fits = omega arith } in
-    let replaces = area_replaces old new f.before (free size ∷ []) (free size ∷ []) f.after at heap.tiles tt f.there m.inside area (spelled, omega arith) in
+    let replaces = area_replaces old new f.before (free size ∷ [])
+    (free size ∷ []) f.after at heap.tiles tt f.there m.inside area (spelled, omega arith) in
     let slots = wrote_slots old new f.before (free size ∷ []) f.after at heap.tiles tt f.there all in
     let now = free_replaced old new f.before (free size ∷ []) (free size ∷ []) f.after at heap replaces slots tt tt in
     let keeps : KeepsFree (ButAt at) old new = λ x apart b. keeps_replaced old new f.before (free size ∷ []) (free size ∷ []) f.after at h f.chunks now replaces x (λ these. elim these [ inl here ↦ apart (sym here) | inr none ↦ none ]) b in
@@ -115,7 +120,8 @@ linked {old} {new} {at} {size} word h f small is =
       second = ap (λ image. u32_at image (at + 4)) is ∙ u32_at-written word (at + 4) old (omega arith) small;
     }
 
-pub links_start : {old new : List ℕ} {at word : ℕ} → Links old new at word → area_start new ≡ area_start old
+pub links_start : {old new : List ℕ} {at word : ℕ} → Links old new at word
+    → area_start new ≡ area_start old
 links_start {old} {new} l = frame_start old new l.frame
 
 pub links_begin : {old new : List ℕ} {at word : ℕ} (there : ℕ) → Links old new at word
@@ -133,8 +139,7 @@ pub was_pushed : {old new : List ℕ} (heads : List ℕ) {after : List ℕ} {at 
     → Pushes old new heads after at
 was_pushed {new} heads {at} {size} {class} h f below of_class small is head =
     let l = linked (slice_index heads class) h f small is in let now = links_chunk l f in
-    let spelled = free_there new at size l.frame.accepted now in
-    record {
+    let spelled = free_there new at size l.frame.accepted now in record {
       class = class;
       below = below;
       links = l;

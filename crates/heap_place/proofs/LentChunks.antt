@@ -41,16 +41,20 @@ named_lent {image} {place} x = by x.body.chunk x.body.chunks x.body.here where
 pub lent_low : (m : Memory) (place : ℕ) → LendsBodies m → BeginsAt place m.lents → 8 ≤ place
 lent_low m place l begins = (header_there (lent_at m place l begins)).1
 
-pub lent_misses : {m : Memory} (place : ℕ) → HoldsHeap m → BeginsAt place m.lents → Misses m.lents (place - 8) 8
+pub lent_misses : {m : Memory} (place : ℕ) → HoldsHeap m → BeginsAt place m.lents
+    → Misses m.lents (place - 8) 8
 lent_misses {m} place h begins =
     let x = lent_at m place h.lent begins in
     header_misses m _ _ _ _ h.accepted h.lent x.body.chunks (header_there x).0
 
-has_chunk : {image : List ℕ} {place : ℕ} → HeapAccepted image → NamedLent image place → HasChunk image (place - 8)
-has_chunk {image} h (lent_movable bytes lock owner slot f) = record { chunk = movable bytes lock owner slot; spelled = finds_spelled _ slot _ _ _ h f }
+has_chunk : {image : List ℕ} {place : ℕ} → HeapAccepted image → NamedLent image place
+    → HasChunk image (place - 8)
+has_chunk {image} h (lent_movable bytes lock owner slot f) =
+    record { chunk = movable bytes lock owner slot; spelled = finds_spelled _ slot _ _ _ h f }
 has_chunk {image} {place} h (lent_fixed bytes owner f) = record { chunk = fixed bytes owner; spelled = finds_spelled _ _ _ _ _ h f }
 
-pub lent_has_chunk : {m : Memory} (place : ℕ) → HoldsHeap m → BeginsAt place m.lents → HasChunk m.bytes (place - 8)
+pub lent_has_chunk : {m : Memory} (place : ℕ) → HoldsHeap m → BeginsAt place m.lents
+    → HasChunk m.bytes (place - 8)
 lent_has_chunk {m} place h begins = has_chunk h.accepted (named_lent (lent_at m _ h.lent begins))
 
 -- ---- what its header says

@@ -30,7 +30,8 @@ pub relocked_holds : {old new : Memory} {found : Found} (lock : ℕ) → HoldsHe
     → (0 < lock) ⊎ LendsOther old found.place.0 → HoldsHeap new
 relocked_holds {old} {new} lock h same f x stays_put = record {
   accepted = x.frame.accepted;
-  lent = relocked_lends old new _ f.live f.chunk _ lock h.accepted h.lent same f.finds x (elim stays_put [ inl some ↦ inl some | inr other ↦ inr (other_at old f other) ]);
+  lent = relocked_lends old new _ f.live f.chunk _ lock h.accepted h.lent same f.finds x
+      (elim stays_put [ inl some ↦ inl some | inr other ↦ inr (other_at old f other) ]);
 }
 
 pub reowned_holds : {old new : Memory} {found : Found} (owner : ℕ) → HoldsHeap old → new.lents ≡ old.lents → (f : IsOne old.bytes found) → Alters old.bytes new.bytes (found.place.0 - 8) (with_owner owner)
@@ -68,13 +69,16 @@ free_part : {m : Memory} {at size : ℕ} (there n : ℕ) → HoldsHeap m → IsF
 free_part {m} {at} {size} there n h f low high = part_within m at _ _ n (run_within m _ (free size ∷ []) f.after at h.accepted h.lent f.chunks f.there tt) (omega arith) (omega arith)
 
 -- its two words
-pub words_within : {m : Memory} {at size : ℕ} → HoldsHeap m → IsFreeChunk m.bytes at size → IsWithin m at 8
+pub words_within : {m : Memory} {at size : ℕ} → HoldsHeap m → IsFreeChunk m.bytes at size
+    → IsWithin m at 8
 words_within {at} h f = let least = (free_there _ _ _ h.accepted f).header_fits in free_part at 8 h f (omega arith) (omega arith)
 
-pub first_within : {m : Memory} {at size : ℕ} → HoldsHeap m → IsFreeChunk m.bytes at size → IsWithin m at 4
+pub first_within : {m : Memory} {at size : ℕ} → HoldsHeap m → IsFreeChunk m.bytes at size
+    → IsWithin m at 4
 first_within {m} {at} h f = part_within m at 8 at 4 (words_within h f) (omega arith) (omega arith)
 
-pub second_within : {m : Memory} {at size : ℕ} → HoldsHeap m → IsFreeChunk m.bytes at size → IsWithin m (at + 4) 4
+pub second_within : {m : Memory} {at size : ℕ} → HoldsHeap m → IsFreeChunk m.bytes at size
+    → IsWithin m (at + 4) 4
 second_within {m} {at} h f = part_within m at 8 _ 4 (words_within h f) (omega arith) (omega arith)
 
 -- the body of what is made of it, once its header is written
@@ -84,7 +88,8 @@ body_still {old} {new} count h f same len = still_within old new _ _ (free_part 
 pub filled_holds : {old new : Memory} {at size : ℕ} {c : Chunk} → HoldsHeap old → new.lents ≡ old.lents → (f : IsFreeChunk old.bytes at size) → Fills old.bytes new.bytes at size c → size_of c ≡ size → HoldsHeap new
 filled_holds {old} {new} {size} {c} h same f x sizes = record { accepted = (x f).frame.accepted; lent = loose_lends old new _ (free size ∷ []) (c ∷ []) f.after h.lent same f.chunks (x f) (omega arith) tt }
 
-pub length-slice : (l : List ℕ) (at n : ℕ) → at + n ≤ length l → length (slice_range l at (at + n)) ≡ n
+pub length-slice : (l : List ℕ) (at n : ℕ) → at + n ≤ length l
+    → length (slice_range l at (at + n)) ≡ n
 length-slice l at n within =
     let a = length-take (at + n - at) (drop at l) in let b = length-drop at l in
     omega arith
@@ -111,7 +116,8 @@ name_size owner slot c = refl
 pub loose_other : (m : Memory) (found : Found) → LendsBodies m → (f : IsOne m.bytes found)
     → found.lock ≡ 0 → LendsOther m found.place.0
 loose_other m found l f unlocked = each_to _ (λ x. x.at ≢ found.place.0) _ l go where
-  loose : (c : Chunk) → NamedHere found.name.0 f.live (found.place.0 - 8) c → IsTrue (stays_put c) → ⊥
+  loose : (c : Chunk) → NamedHere found.name.0 f.live (found.place.0 - 8) c → IsTrue (stays_put c)
+      → ⊥
   loose (free size) n = λ s. n
   loose (movable bytes zero owner slot) n = λ s. absurd cc
   loose (movable bytes (suc lock) owner slot) n = λ s.
@@ -130,11 +136,13 @@ loose_other m found l f unlocked = each_to _ (λ x. x.at ≢ found.place.0) _ l 
         | behind k ↦ omega arith
       ]
 
-pub other_still : (old new : Memory) (place : ℕ) → new.lents ≡ old.lents → LendsOther old place → LendsOther new place
+pub other_still : (old new : Memory) (place : ℕ) → new.lents ≡ old.lents → LendsOther old place
+    → LendsOther new place
 other_still old new place same o = subst (λ x. EachLent (λ y. y.at ≢ place) x) (sym same) o
 
 -- nor is what stands in room
-pub spot_other : (m : Memory) (at room : ℕ) → LendsBodies m → IsSpot m.bytes at room → 0 < room → LendsOther m (at + 8)
+pub spot_other : (m : Memory) (at room : ℕ) → LendsBodies m → IsSpot m.bytes at room → 0 < room
+    → LendsOther m (at + 8)
 spot_other m at room l s some = each_to (IsLentBody m.bytes) (λ x. x.at ≢ at + 8) m.lents l go where
   go : (lent : Lent) → IsAmong lent m.lents → IsLentBody m.bytes lent → lent.at ≢ at + 8
   go lent is x = λ same.
@@ -175,7 +183,8 @@ pub others_lend : (old : Memory) {new : List ℕ} {found : Found} (part : List �
 others_lend old {new} {found} part h l f x many other =
     let size = bytes_size found.name.0 _ 0 f.live f.chunk part f.finds.named (omega arith) in
     let there : found.place.0 ≡ found.place.0 - 8 + 8 = omega arith in
-    other_lends old (record old { bytes = new }) _ f.live f.chunk _ (λ c. with_bytes 0 part c ∷ []) h l refl f.finds x (omega arith) (rw there at other)
+    other_lends old (record old { bytes = new }) _ f.live f.chunk _
+        (λ c. with_bytes 0 part c ∷ []) h l refl f.finds x (omega arith) (rw there at other)
 
 pub lending_lends : (old new : Memory) (found : Found) (lent : Lent) (part : List ℕ) → HeapAccepted old.bytes → LendsBodies old → LendsOther old found.place.0 → new.lents ≡ lent ∷ old.lents → (f : IsOne old.bytes found) → 0 < found.lock → Alters old.bytes new.bytes (found.place.0 - 8) (with_bytes 0 part) → length part ≡ found.length → lent.at ≡ found.place.0 → lent.count ≡ found.length → LendsBodies new
 lending_lends old new found lent part h l other is f some x many there count =
@@ -197,7 +206,8 @@ each_less_by : (P : Lent → Type 0) (c : Bool) (at : ℕ) (l : Lent) (ls : List
 each_less_by P true at l ls first others rest = others
 each_less_by P false at l ls first others rest = (first, rest)
 
-each_less : (P : Lent → Type 0) (at : ℕ) (lents : List Lent) → EachLent P lents → EachLent P (without at lents)
+each_less : (P : Lent → Type 0) (at : ℕ) (lents : List Lent) → EachLent P lents
+    → EachLent P (without at lents)
 each_less P at [] each = tt
 each_less P at (l ∷ ls) each = each_less_by P _ at l ls each.0 each.1 (each_less P at ls each.1)
 

@@ -18,7 +18,8 @@ one_class {k} {j} a b apart = elim (sides k j apart) [ inl less ↦ not_above a 
 
 -- ---- chains
 
-pub one_length : (image : List ℕ) (class n m at : ℕ) → Chain image class n at → Chain image class m at → n ≡ m
+pub one_length : (image : List ℕ) (class n m at : ℕ) → Chain image class n at
+    → Chain image class m at → n ≡ m
 one_length image class zero zero at a b = refl
 one_length image class zero (suc m) at a b = absurd (omega arith)
 one_length image class (suc n) zero at a b = absurd (omega arith)
@@ -43,7 +44,8 @@ pub weaker : (P Q : ℕ → Type 0) (image : List ℕ) (class n at : ℕ) → ((
 weaker P Q image class zero at each c on = tt
 weaker P Q image class (suc n) at each c on = (each at c.0 on.0, weaker P Q _ _ n _ each c.1 on.1)
 
-pub free_kept : {old new : List ℕ} {class at : ℕ} → IsFreeOf old class at → KeepsOne old new at → IsFreeOf new class at
+pub free_kept : {old new : List ℕ} {class at : ℕ} → IsFreeOf old class at → KeepsOne old new at
+    → IsFreeOf new class at
 free_kept f k = record { begins = k.begins; of_class = rw (← k.first) at f.of_class; positive = f.positive }
 
 pub chain_kept : (P : ℕ → Type 0) {old new : List ℕ} (class n at : ℕ) → KeepsFree P old new
@@ -80,7 +82,8 @@ lists_weaker P Q image heads each a = record {
       record { count = l.count; chain = l.chain; each = weaker P Q _ _ _ _ (λ x f. each x f.begins) l.chain l.each };
 }
 
-pub lists_any : (P : ℕ → Type 0) (image heads : List ℕ) → AreLists P image heads → HasLists image heads
+pub lists_any : (P : ℕ → Type 0) (image heads : List ℕ) → AreLists P image heads
+    → HasLists image heads
 lists_any P image heads a = lists_weaker P Any image heads (λ x b p. tt) a
 
 -- the empty lists
@@ -100,14 +103,16 @@ pub record IsHead (image heads : List ℕ) (class at : ℕ) : Type 0 where
 pub head_free : {image heads : List ℕ} (class : ℕ) → HasLists image heads → class < class_count
     → 0 < slice_index heads class → IsHead image heads class (slice_index heads class)
 head_free {image} {heads} class a below some = by_count _ (a.lists class below).chain where
-  by_count : (n : ℕ) → Chain image class n (slice_index heads class) → IsHead image heads class (slice_index heads class)
+  by_count : (n : ℕ) → Chain image class n (slice_index heads class)
+      → IsHead image heads class (slice_index heads class)
   by_count zero c = absurd (omega arith)
   by_count (suc n) c = record { free = c.0; count = n; rest = c.1 }
 
 -- the lists, one by its own proof
 pub one_and_others : (P : ℕ → Type 0) (image heads : List ℕ) (class : ℕ)
     → length heads ≡ class_count → IsList P image class (slice_index heads class)
-    → ((k : ℕ) → k < class_count → k ≢ class → IsList P image k (slice_index heads k)) → AreLists P image heads
+    → ((k : ℕ) → k < class_count → k ≢ class → IsList P image k (slice_index heads k))
+    → AreLists P image heads
 one_and_others P image heads class count here others = record {
   count = count;
   lists = λ k low. elim (cases_eq k class) [ inl same ↦ subst (λ j. IsList P image j (slice_index heads j)) (sym same) here | inr apart ↦ others k low apart ];
@@ -130,8 +135,7 @@ popped {image} {heads} class {at} a below is some = changed_list _ _ _ _ _ a.cou
 
   other : (k : ℕ) → k < class_count → k ≢ class → IsList (ButAt at) image k (slice_index heads k)
   other k low apart =
-      let l = a.lists k low in
-      record {
+      let l = a.lists k low in record {
         count = l.count;
         chain = l.chain;
         each = chain_each (ButAt at) image k l.count (slice_index heads k)

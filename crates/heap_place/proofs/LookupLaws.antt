@@ -38,7 +38,8 @@ record FixedAs (at : ℕ) (name : Name) (c : Chunk) (found : Found) : Type 0 whe
 abbrev pub fixed_test : ℕ → Name → ℕ → Bool
 fixed_test at name owner = ((placed (at + 8)).0 == name.0) && nat_lt 0 owner
 
-Decides-fixed_by : (at owner : ℕ) (name : Name) → Decides (fixed_test at name owner) ((at + 8 ≡ name.0) × (0 < owner))
+Decides-fixed_by : (at owner : ℕ) (name : Name)
+    → Decides (fixed_test at name owner) ((at + 8 ≡ name.0) × (0 < owner))
 Decides-fixed_by at owner name = Decides-and _ _ (Decides-eqb (at + 8) name.0) (Decides-ltb 0 owner)
 
 fixed_named : (at : ℕ) (name : Name) {header : Header} (c : Chunk) {found : Found} → header ≡ header_of c → found_if_fixed header (placed (at + 8)) name ≡ Some found → FixedAs at name c found
@@ -102,7 +103,8 @@ none_at : (there start : ℕ) (before : List Chunk) (c : Chunk) (after : List Ch
 none_at there start [] c after e = λ same. e.0 ((let z : start ≡ start + total [] = omega arith in z) ∙ same)
 none_at there start (b ∷ bs) c after e = λ same. none_at there (start + size_of b) bs c after e.1 ((let z : start + size_of b + total bs ≡ start + total (b ∷ bs) = omega arith in z) ∙ same)
 
-pub held_slot : {image : List ℕ} {name place : ℕ} → HeapAccepted image → HoldsPlace image name place → InSlot image name place
+pub held_slot : {image : List ℕ} {name place : ℕ} → HeapAccepted image → HoldsPlace image name place
+    → InSlot image name place
 held_slot {name} {place} h holds = in_slot _ name place h holds.is_slot holds.held holds.some
 
 -- where no chunk begins no slot's chunk does
@@ -132,7 +134,8 @@ pub is_fixed : {image : List ℕ} (name : ℕ) (x : Option LiveChunk) → HeapAc
 is_fixed name None h e some nothing = absurd cc
 is_fixed {image} name (Some live) h e some nothing = let f = held_finds image name live h e in fixed_chunk f.chunk h nothing f.finds
 
-pub fixed_has_chunk : {image : List ℕ} {name : ℕ} → HeapAccepted image → (i : IsFixed image name) → HasChunk image (name - 8)
+pub fixed_has_chunk : {image : List ℕ} {name : ℕ} → HeapAccepted image → (i : IsFixed image name)
+    → HasChunk image (name - 8)
 fixed_has_chunk {name} h i = record { chunk = fixed i.bytes i.owner; spelled = finds_spelled _ name _ _ _ h i.finds }
 
 -- what its header says
@@ -190,14 +193,16 @@ loose_holds (fixed bytes owner) {at} h loose f = absurd (loose (same_lock (sym (
 -- its slot holds its place
 pub movable_holds_place : (image : List ℕ) (name : ℕ) → HeapAccepted image → IsSome (held image name) → ((live : LiveChunk) → held image name ≡ Some live → live.lock ≢ fixed_lock) → HoldsPlace image name (u32_at image name)
 movable_holds_place image name h some loose = by (held image name) refl some where
-  by : (x : Option LiveChunk) → held image name ≡ x → IsSome x → HoldsPlace image name (u32_at image name)
+  by : (x : Option LiveChunk) → held image name ≡ x → IsSome x
+      → HoldsPlace image name (u32_at image name)
   by None e here = absurd cc
   by (Some live) e here =
       let f = held_finds image name live h e in
       let holds = loose_holds f.chunk h (loose live e) f.finds in
       subst (λ p. HoldsPlace image name p) (sym holds.held) holds
 
-pub slot_low : {image : List ℕ} {name place : ℕ} → HeapAccepted image → HoldsPlace image name place → 8 ≤ place
+pub slot_low : {image : List ℕ} {name place : ℕ} → HeapAccepted image → HoldsPlace image name place
+    → 8 ≤ place
 slot_low h holds = (held_slot h holds).behind_header
 
 -- a live chunk stands at the place that a slot holds
@@ -218,7 +223,8 @@ slot_fields name fields h holds says =
     record { live = s.live; chunk = movable s.live.bytes s.live.lock s.live.owner s.named; finds = s.finds; behind_header = s.behind_header; name_is = refl; count = are.0; lock_is = are.1; owner_is = are.2 }
 
 -- a header that stands there is the one that is read
-pub header_read : {image : List ℕ} {at : ℕ} {header : Header} → HasHeader image at header → ReadsHeader image at header
+pub header_read : {image : List ℕ} {at : ℕ} {header : Header} → HasHeader image at header
+    → ReadsHeader image at header
 header_read {at} h = ap (λ x. Some x) h.header_is ∙ sym (ap (option_map header_of) (chunk_at-spelled _ at _ h.spelled))
 
 -- ---- what is not found
@@ -234,7 +240,8 @@ unplaced : (image : List ℕ) (name : ℕ) → held image name ≡ None → plac
 unfolding held
 unplaced image name e = live_placed (area_start image) (chunks_of image) name e
 
-pub low_holds_none : {image : List ℕ} (place : ℕ) → HeapAccepted image → place < 8 → NoSlotHolds image place
+pub low_holds_none : {image : List ℕ} (place : ℕ) → HeapAccepted image → place < 8
+    → NoSlotHolds image place
 low_holds_none place h low name holds = let behind = (held_slot h holds).behind_header in absurd (omega arith)
 
 -- the header in front of a place that a slot holds
@@ -275,7 +282,8 @@ movable_place (headers.Fixed count owner) place e = absurd cc
 pub nothing_at : {image : List ℕ} (place : ℕ) → HeapAccepted image → NoSlotHolds image place
     → NoneFixedAs image place (chunks_of image) → NothingAt image place
 nothing_at {image} place h slots none_fixed name at = none (held image name) refl where
-  at_place : (live : LiveChunk) (c : Chunk) (there : ℕ) → Finds image name live c there → there + 8 ≡ place → ⊥
+  at_place : (live : LiveChunk) (c : Chunk) (there : ℕ) → Finds image name live c there
+      → there + 8 ≡ place → ⊥
   at_place live (free size) there f e = f.named
   at_place live (movable bytes lock owner slot) there f e = slots name (rw e at (own_holds h f))
   at_place live (fixed bytes owner) there f e =

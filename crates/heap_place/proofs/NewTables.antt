@@ -30,12 +30,12 @@ table_written {old} {h} {z} {at} accepted chained r h_is header z_is =
     let many : length m.0 ≡ 64 = m.1.1 in
     let same : length (replicate {A = ℕ} 64 0) ≡ length m.0 = zeros ∙ sym many in
     let first = wrote_word_apart h z _ _ at body (inl (omega arith)) in
-    let second = wrote_word_apart h z _ _ _ body (inl (omega arith)) in
-    record {
+    let second = wrote_word_apart h z _ _ _ body (inl (omega arith)) in record {
       chained = chained;
       heap = heap_in_parts old (r.before ++ free 72 ∷ r.after) accepted r.chunks;
       there = r.there;
-      wrote = wrote_then old h z at _ (wrote_wider old h at _ at _ head (omega arith) (omega arith)) (wrote_wider h z _ _ at _ body (omega arith) (omega arith));
+      wrote = wrote_then old h z at _ (wrote_wider old h at _ at _ head (omega arith) (omega arith))
+          (wrote_wider h z _ _ at _ body (omega arith) (omega arith));
       spelled = record {
         first_word = first ∙ s.first_word ∙ ap (λ n. (need n - 8 - n) * 2 ^ 24 + need n) (sym same);
         size_fits = omega arith;
@@ -53,8 +53,7 @@ table_written {old} {h} {z} {at} accepted chained r h_is header z_is =
 
 alike_keeps : {old new : List ℕ} {cs ds : List Chunk} → Tiles old cs → Tiles new ds → area_start new ≡ area_start old → SpellsAlike old new (area_start old) cs ds → KeepsFree Any old new
 alike_keeps {old} {new} {cs} {ds} t u start s there any b =
-    let found = rw (chunks_of-tiled old cs t) at b in
-    record {
+    let found = rw (chunks_of-tiled old cs t) at b in record {
       begins = rw (← start) at (rw (← (chunks_of-tiled new ds u)) at (any_alike (IsFreeAt there) (free_tells there) (area_start old) cs ds s.alike found));
       first = free_word old new there (area_start old) cs s.words found;
       second = s.seconds there found;
@@ -75,7 +74,8 @@ pub record TableClaimed (old new : List ℕ) (at : ℕ) : Type 0 where
   pub plain : WritesPlain old new
 
 pub table_lays : {old h z new : List ℕ} {at : ℕ} → HeapAccepted old → is_chained old ≡ true → (r : IsFreeChunk old at 72) → h ≡ overwritten old at (header_words at (headers.Fixed 64 0)) → HasHeader h at (headers.Fixed 64 0) → z ≡ overwritten h (at + 8) (replicate 64 0)
-    → new ≡ overwritten z (last_next z) (u32_bytes (at + 8)) → LaysTable old z new r.before r.after at
+    → new ≡ overwritten z (last_next z) (u32_bytes (at + 8))
+    → LaysTable old z new r.before r.after at
 table_lays accepted chained r h_is header z_is new_is = record { first = table_written accepted chained r h_is header z_is; word = new_is }
 
 pub table_claimed : {old z new : List ℕ} {at : ℕ} → (r : IsFreeChunk old at 72)
@@ -84,8 +84,7 @@ table_claimed {old} {z} {new} {at} r l =
     let d = lays_table old z new r.before r.after at l in
     let start = stays_start z new d.added.head in
     let first = keeps_tiled r.chunks d.tiles d.replaces in
-    let second = alike_keeps d.tiles d.added.tiles start d.added.alike in
-    record {
+    let second = alike_keeps d.tiles d.added.tiles start d.added.alike in record {
       puts = d.puts;
       keeps = λ there apart b.
           let one = first there (other_apart at 72 there apart) b in

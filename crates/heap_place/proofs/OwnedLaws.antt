@@ -28,7 +28,8 @@ pub record OwnedAs (at owner : ℕ) (c : Chunk) (found : Found) : Type 0 where
 own_test : (own owner : ℕ) (chunk found : Found)
     → cond (own == owner) (Some chunk) None ≡ Some found → (own ≡ owner) × (chunk ≡ found)
 own_test own owner chunk found e = by_test (own == owner) refl e where
-  by_test : (t : Bool) → (own == owner) ≡ t → cond t (Some chunk) None ≡ Some found → (own ≡ owner) × (chunk ≡ found)
+  by_test : (t : Bool) → (own == owner) ≡ t → cond t (Some chunk) None ≡ Some found
+      → (own ≡ owner) × (chunk ≡ found)
   by_test true is s = (eqb-true own owner is, some_same s)
   by_test false is s = absurd cc
 
@@ -60,8 +61,7 @@ not_owned_named at owner (fixed bytes own) e = other_test _ _ e
 abbrev pub owned_one : {image : List ℕ} (P : List Chunk → Type 0) {at : ℕ} (owner : ℕ) {header : Header} {found : Found} → HeapAccepted image → 0 < owner → Passed image P at → HasHeader image at header → FindsOwned header at owner found → IsOne image found
 owned_one P {at} owner {found} h some p has is =
     let o = owned_named at owner has.chunk has.header_is is in let parts = passed_parts P h p has in
-    let back : at ≡ found.place.0 - 8 = omega arith in
-    record {
+    let back : at ≡ found.place.0 - 8 = omega arith in record {
       live = o.live;
       chunk = has.chunk;
       finds = record { before = p.front; after = _; chunks = parts.1; there = sym back ∙ passed_at _ P at p; named = subst (λ n. NamedHere found.name.0 o.live n has.chunk) back (o.named some) };
@@ -76,7 +76,8 @@ owned_one P {at} owner {found} h some p has is =
 pub owned_apart : {image : List ℕ} {at : ℕ} (owner : ℕ) {header : Header} {found : Found} → HeapAccepted image → (f : IsOne image found) → HasHeader image at header → FindsOwned header at owner found → 0 < owner → found.name.0 ≢ directory_of image
 owned_apart {image} {at} owner {found} h f has is some =
     let own = (owned_named at owner has.chunk has.header_is is).own in
-    not_directory image found.name.0 f.live h (finds_held image _ f.live f.chunk _ h f.finds) (λ none. let z : f.live.owner ≡ 0 = none in omega arith)
+    not_directory image found.name.0 f.live h (finds_held image _ f.live f.chunk _ h f.finds)
+    (λ none. let z : f.live.owner ≡ 0 = none in omega arith)
 
 -- nor lent, if no chunk of that owner is
 pub owned_other : (m : Memory) {at : ℕ} (owner : ℕ) {header : Header} {found : Found} → LendsNoneOf m owner → (f : IsOne m.bytes found) → HasHeader m.bytes at header → FindsOwned header at owner found → LendsOther m found.place.0
@@ -126,7 +127,8 @@ none_more owner front c none not_own = counted_one _ front c [] ∙ (let one : c
 
 -- ---- the walk
 
-pub freeing_start : {image : List ℕ} (owner : ℕ) → HeapAccepted image → Freeing image image owner (area_start image) 0
+pub freeing_start : {image : List ℕ} (owner : ℕ) → HeapAccepted image
+    → Freeing image image owner (area_start image) 0
 freeing_start {image} owner h = record {
   frame = same_frame image h;
   same = sym (owned_freed-merged owner (chunks_of image));
@@ -146,7 +148,8 @@ freeing_kept {old} {now} {owner} {at} {count} {header} f has not_own is =
     subst (λ n. Freeing old now owner (at + n) count) (sym is) record {
       frame = f.frame;
       same = f.same;
-      passed = passed_more now (NoneOwned owner) (NoneOwned owner) at header f.passed has (none_more owner f.passed.front has.chunk f.passed.holds other);
+      passed = passed_more now (NoneOwned owner) (NoneOwned owner) at header f.passed has
+          (none_more owner f.passed.front has.chunk f.passed.holds other);
       counted = f.counted;
       few = omega arith;
       plain = f.plain;
@@ -165,7 +168,8 @@ freeing_more {old} {now} {new} {owner} {at} size {found} f has is x exact p =
     let b = (exchanges_parts now new at (λ chunk. freed chunk ∷ []) front c after f.frame.accepted o.is_live parts.1 there).0 (rw back at x) in
     let one : cond {A = ℕ} (is_owned_by owner c) 1 0 ≡ 1 = cond-true (is_owned_by owner c) 1 0 o.is in
     let before_is : owned owner (chunks_of now) ≡ owned owner front + (cond {A = ℕ} (is_owned_by owner c) 1 0 + owned owner after) = ap (owned owner) parts.1 ∙ counted_one owner front c after in
-    let now_is : owned owner (chunks_of new) ≡ owned owner front + (0 + owned owner after) = ap (owned owner) exact ∙ counted_one owner front (free size) after in
+    let now_is : owned owner (chunks_of new) ≡ owned owner front + (0 + owned owner after) =
+    ap (owned owner) exact ∙ counted_one owner front (free size) after in
     let start = becomes_start now new (front ++ freed c ∷ after) b in
     let sizes = total-append front (free size ∷ []) in
     let area = rw (exact ∙ sym (append_assoc front (free size ∷ []) after)) at (read_heap new b.frame.accepted).tiles.area in
@@ -177,7 +181,8 @@ freeing_more {old} {now} {new} {owner} {at} size {found} f has is x exact p =
     let lists : owned_freed owner (front ++ freed c ∷ after) ≡ owned_freed owner (front ++ c ∷ after) = owned_freed-append owner front (freed c ∷ after) ∙ ap (λ d. owned_freed owner front ++ d ∷ owned_freed owner after) (sym freed_c) ∙ sym (owned_freed-append owner front (c ∷ after)) in (
       record {
         frame = frame_then old now new f.frame b.frame;
-        same = owned_freed-layout owner (chunks_of new) (front ++ freed c ∷ after) b.layout ∙ ap merged lists ∙ sym (ap (λ cs. merged (owned_freed owner cs)) parts.1) ∙ f.same;
+        same = owned_freed-layout owner (chunks_of new) (front ++ freed c ∷ after) b.layout
+            ∙ ap merged lists ∙ sym (ap (λ cs. merged (owned_freed owner cs)) parts.1) ∙ f.same;
         passed = record {
           front = passed;
           spelled = rw (let e : area_start new + total passed ≡ at + size = omega arith in e) at s.0;

@@ -12,8 +12,7 @@ use Rattle.heap_place.proofs.WithinLaws.{named_apart}
 pub run_spot : (image : List ℕ) (found : Found) (own behind : ℕ) → own ≡ need found.length
     → RunBehind image found behind → IsSpot image (found.place.0 - 8 + own) behind
 run_spot image found own behind e r =
-    let ends = ends_behind e r.one in
-    record {
+    let ends = ends_behind e r.one in record {
       before = r.one.finds.before ++ r.one.chunk ∷ [];
       run = r.run;
       after = r.rest;
@@ -122,7 +121,8 @@ pub regrown_lists : (mid new heads after : List ℕ) (at all taken : ℕ) → 8 
 regrown_lists mid new heads after at all taken least less lists p =
     push_lists _ _ lists (λ x b out. (tt, outside_not at _ _ (omega arith) (omega arith) out)) tt p
 
-pub regrown_all : (mid heads : List ℕ) (at all : ℕ) → AreLists (Outside at all) mid heads → HasLists mid heads
+pub regrown_all : (mid heads : List ℕ) (at all : ℕ) → AreLists (Outside at all) mid heads
+    → HasLists mid heads
 regrown_all mid heads at all lists = lists_any (Outside at all) mid heads lists
 
 -- ---- the layout

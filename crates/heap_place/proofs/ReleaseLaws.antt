@@ -33,7 +33,8 @@ module _ {old : List ℕ} {at name : ℕ} {live : LiveChunk} {chunk : Chunk} (h 
   -- its slot stays one
   slot_stays : {mid : List ℕ} (size : ℕ) → IsSlot old name
       → mid ≡ overwritten old at (u32_bytes (2 ^ 31 + size)) → TablesLie mid × IsSlot mid name
-  slot_stays {mid} size own is = table_kept old mid f.before (chunk ∷ []) f.after at name heap_at.tiles no_table standing.there (first_word size is) own
+  slot_stays {mid} size own is = table_kept old mid f.before
+      (chunk ∷ []) f.after at name heap_at.tiles no_table standing.there (first_word size is) own
 
 -- the word that is written for the free chunk
 first_is : (old : List ℕ) {mid : List ℕ} (at size : ℕ) → mid ≡ overwritten old at (u32_bytes (2 ^ 31 + size)) → at + 4 ≤ length old → size < 2 ^ 24 → u32_at mid at ≡ 2 ^ 31 + size
@@ -65,7 +66,8 @@ given {old} {mid} new {at} size {name} {live} (movable bytes lock owner slot) h 
       clears = ap (λ x. u32_at x slot) emptied ∙ u32_at-written 0 _ mid (omega arith) (omega arith);
       others = record { same = λ t ts ne. area_slots old new f.before (c ∷ []) f.after at t (heap_at h f).tiles tt m.there area ts (λ e. ne (sym e ∙ f.named.0)) };
       spelled = Spelled-same mid new at (free size) (beside_same mid new slot at (at + total (c ∷ [])) at (at + size) word beside (omega arith) (omega arith) (omega arith)) word.len (has_free mid at size header);
-      word = beside_word mid new slot at (at + total (c ∷ [])) at word beside (omega arith) (omega arith) (omega arith) ∙ first_is old at size is (omega arith) (omega arith);
+      word = beside_word mid new slot at (at + total (c ∷ [])) at word beside (omega arith)
+          (omega arith) (omega arith) ∙ first_is old at size is (omega arith) (omega arith);
     }
 given {old} {mid} new {at} size {name} {live} (fixed bytes owner) h f takes is header emptied =
     let c : Chunk = fixed bytes owner in let m = standing h f in
@@ -93,7 +95,8 @@ gave_back_at {old} new {at} size {name} {live} {chunk} h own f takes is header e
     let fits = least h f in let inside = m.inside in let most = m.most in
     let w = given new size chunk h f takes is header emptied in
     let r = area_replaces old new _ _ _ _ at (heap_at h f).tiles (no_table h f) m.there m.inside w.area (w.spelled, omega arith) in
-    let all = released old new _ _ [] f.after at size name live (heap_at h f) r tt f.named (not_directory old at name live _ own f.named) w.clears w.others in
+    let all = released old new _ _ [] f.after at size name live (heap_at h f) r tt f.named
+    (not_directory old at name live _ own f.named) w.clears w.others in
     let there = m.there in
     let exact = chunks_of-tiled new (f.before ++ free size ∷ f.after) all.tiles in
     let start = same_start old new r.head in (
@@ -178,7 +181,8 @@ given_lists {old} {mid} {heads} {found} h f keeps p lists =
 own_slot_is : {old : List ℕ} {found : Found} → HeapAccepted old → (f : IsOne old found)
     → found.lock ≢ fixed_lock → IsSlot old found.name.0
 own_slot_is {old} {found} h f loose = by_chunk f.chunk f.finds where
-  by_chunk : (c : Chunk) → Finds old found.name.0 f.live c (found.place.0 - 8) → IsSlot old found.name.0
+  by_chunk : (c : Chunk) → Finds old found.name.0 f.live c (found.place.0 - 8)
+      → IsSlot old found.name.0
   by_chunk (free size) g = absurd g.named
   by_chunk (fixed bytes o) g = absurd (loose (f.lock_is ∙ same_lock (sym (fixed_live_is (found.place.0 - 8) bytes o g.named))))
   by_chunk (movable bytes l o s) g = rw g.named.0 at (own_slot old _ _ f.live bytes l o s h g)

@@ -60,7 +60,8 @@ writable_by {image} {name} {at} count {live} (fixed bytes owner) h f whole small
     let own : owner < 16 = s.owner_fits in let len = length-sized_to bytes count in
     (omega arith, omega arith)
 
-size_by_sized : (c : Chunk) (count : ℕ) → IsNotFree c → size_by (header_of (with_length count c)) ≡ need count
+size_by_sized : (c : Chunk) (count : ℕ) → IsNotFree c
+    → size_by (header_of (with_length count c)) ≡ need count
 size_by_sized (free size) count n = absurd n
 size_by_sized (movable bytes lock owner slot) count n = ap need (length-sized_to bytes count)
 size_by_sized (fixed bytes owner) count n = ap need (length-sized_to bytes count)
@@ -96,7 +97,8 @@ sized_body old {filled} {new} at count {bytes} body inside fits is same len_fill
       was : take (length bytes) (drop start old) ≡ bytes
       was = ap (λ n. take n (drop start old)) (sym (whole (length bytes))) ∙ body
 
-      longer : length bytes < count → slice_range filled start (start + count) ≡ sized_to bytes count
+      longer : length bytes < count
+          → slice_range filled start (start + count) ≡ sized_to bytes count
       longer more =
           let zeros_are = many in
           let size = length-take-le count (drop start old) (let n = length-drop start old in omega arith) in
@@ -104,11 +106,13 @@ sized_body old {filled} {new} at count {bytes} body inside fits is same len_fill
           ap (λ x. take (start + count - start) (drop start x)) is
           ∙ slice-overwritten-within old _ _ count zeros (omega arith) (omega arith)
           ∙ ap (λ n. overwritten (take n (drop start old)) (length bytes) zeros) (whole count)
-          ∙ ap (λ x. take (length bytes) (take count (drop start old)) ++ zeros ++ x) (drop_all (length bytes + length zeros) (take count (drop start old)) (omega arith))
+          ∙ ap (λ x. take (length bytes) (take count (drop start old)) ++ zeros ++ x)
+          (drop_all (length bytes + length zeros) (take count (drop start old)) (omega arith))
           ∙ append-nil (take (length bytes) (take count (drop start old)) ++ zeros)
           ∙ ap (λ x. x ++ zeros) (kept ∙ sym (take_all count bytes (omega arith)))
 
-      shorter : count ≤ length bytes → slice_range filled start (start + count) ≡ sized_to bytes count
+      shorter : count ≤ length bytes
+          → slice_range filled start (start + count) ≡ sized_to bytes count
       shorter less =
           let zeros_are = many in let none : count - length bytes ≡ 0 = omega arith in
           let w = wrote_part old filled (start + length bytes) zeros is (omega arith) in
@@ -162,7 +166,8 @@ sized_kind slot at count (fixed bytes owner) n = (n, tt, λ m. m, λ m. m, refl)
 
 wrote_header : (old : List ℕ) {new : List ℕ} (at : ℕ) (c : Chunk) → IsNotFree c → at + size_of c ≤ length old → new ≡ overwritten old at (header_words at (header_of c)) → WroteWithin old new at (at + 8)
 wrote_header old at (free size) n inside is = absurd n
-wrote_header old {new} at (movable bytes lock owner slot) n inside is = wrote_words old new at (length bytes) lock owner (h_offset_to at slot) inside is
+wrote_header old {new} at (movable bytes lock owner slot) n inside is =
+    wrote_words old new at (length bytes) lock owner (h_offset_to at slot) inside is
 wrote_header old {new} at (fixed bytes owner) n inside is = wrote_words old new at (length bytes) fixed_lock owner 0 inside is
 
 -- ---- the writes
@@ -191,7 +196,8 @@ resized {old} {filled} mid {new} {found} count {behind} h r fits filled_is wrote
     let many : length zeros ≡ count - found.length = length-replicate (count - found.length) 0 in
     let w0 = wrote_part old filled (found.place.0 + found.length) zeros filled_is (omega arith) in
     let w1 = wrote_wider old filled _ _ at (at + all) w0 (omega arith) (omega arith) in
-    let w2 = rest_within filled mid (at + need count) left (at + need count) (at + all) wrote_left (omega arith) (omega arith) (omega arith) (omega arith) in
+    let w2 = rest_within filled mid (at + need count) left (at + need count) (at + all) wrote_left
+    (omega arith) (omega arith) (omega arith) (omega arith) in
     let len2 = w2.len in let e = header_sized count h one in
     let now = is ∙ ap (λ x. overwritten mid at (header_words at x)) e in
     let header = subst (λ x. HasHeader new at x) e has in
@@ -209,7 +215,8 @@ resized {old} {filled} mid {new} {found} count {behind} h r fits filled_is wrote
     let behind_it =
     subst (λ n. SpelledAll new n (gap left) (at + total (c ∷ r.run))) (ap (λ n. at + n) (sym taken))
     (gap_spelled _ _ _ left _ refl (omega arith) (omega arith) (omega arith) len3 w3 wrote_left) in
-    let done = rewritten old new _ at one.live c r.run d (gap left) r.rest h f r.parts r.all_free (gap_free left) (rw end at w) (spelled, behind_it) kind.1 kind.2
+    let done = rewritten old new _ at one.live c r.run d (gap left) r.rest h f r.parts r.all_free
+    (gap_free left) (rw end at w) (spelled, behind_it) kind.1 kind.2
     (kind.3 (finds_callers old _ one.live c at h f)) in record {
       becomes = becomes_heap old new _ done.replaces.head done.heap;
       plain = replaced_plain old new f.before (c ∷ r.run) (d ∷ gap left) r.rest at (f.chunks ∙ ap (λ cs. f.before ++ c ∷ cs) r.parts) done.heap done.replaces (λ there p. elim p [

@@ -38,7 +38,8 @@ behind_one : (begun : ℕ) (c : Chunk) → run_behind begun (c ∷ []) ≡ run_b
 behind_one begun (free n) = refl
 behind_one begun c = refl
 
-below_one : (size begun : ℕ) (c : Chunk) → run_by begun (header_of c) < size → StaysBelow size begun (c ∷ [])
+below_one : (size begun : ℕ) (c : Chunk) → run_by begun (header_of c) < size
+    → StaysBelow size begun (c ∷ [])
 below_one size begun (free n) lt = (lt, tt)
 below_one size begun c lt = tt
 
@@ -83,7 +84,8 @@ pub search_there : {image : List ℕ} {size at run_size : ℕ} → HeapAccepted 
     → Searched image size at run_size → at < length image → HasChunk image at
 search_there {at} h s inside = let c = chunk_there _ h.0 _ at h.1.tiles s.spelled inside in record { chunk = c.0; spelled = c.1 }
 
-pub search_fits : {image : List ℕ} {size at run_size : ℕ} → Searched image size at run_size → run_size ≤ at
+pub search_fits : {image : List ℕ} {size at run_size : ℕ} → Searched image size at run_size
+    → run_size ≤ at
 search_fits {image} {at} s =
     let e = SpelledAll-end image (area_start image) (s.front ++ s.run) at s.spelled in
     let t = total-append s.front s.run in omega arith
@@ -136,8 +138,7 @@ search_found {image} {at} {h} accepted s found =
     let spelled = pushed s found in
     let after = chunks_after image _ (cs ++ c ∷ []) (at + size_by h) accepted.1.tiles spelled z.1 in
     let end = SpelledAll-end image (area_start image) (cs ++ c ∷ []) (at + size_by h) spelled in
-    let split = ap total r.parts ∙ total-append r.front r.run in
-    record {
+    let split = ap total r.parts ∙ total-append r.front r.run in record {
       before = r.front;
       run = r.run;
       after = after.0;

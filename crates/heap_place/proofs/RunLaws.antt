@@ -24,7 +24,8 @@ reads image at (c ∷ cs) s = subst (λ n. Reads image at (c ∷ cs) n) (sym (ap
     record { rest = []; spelled = λ p. absurd (omega arith); sums = λ p. absurd (omega arith); none = λ e. refl; inside = let i = (Spelled-size image at c s.0).1 in omega arith }
 
 -- chunks stand from there on
-pub from_bound : {image : List ℕ} {at : ℕ} → HeapAccepted image → IsBound image at → ChunksFrom image at
+pub from_bound : {image : List ℕ} {at : ℕ} → HeapAccepted image → IsBound image at
+    → ChunksFrom image at
 from_bound {image} h b = record {
   rest = b.after;
   spelled = rw (← b.ends.there) at (SpelledAll-split image (area_start image) b.before _ _ (heap_in_parts _ _ h b.ends.chunks).tiles.area).1;
@@ -37,7 +38,8 @@ from_running {image} {end} b r some =
     let is = r.there in let here : 0 < free_size_at image end = omega arith in
     record { rest = n.rest; spelled = rw (← is) at (n.spelled here) }
 
-pub a_chunk_there : {image : List ℕ} {at : ℕ} → ChunksFrom image at → at < length image → HasChunk image at
+pub a_chunk_there : {image : List ℕ} {at : ℕ} → ChunksFrom image at → at < length image
+    → HasChunk image at
 a_chunk_there {image} {at} f inside = by_rest f.rest f.spelled where
   by_rest : (cs : List Chunk) → SpelledAll image at cs (length image) → HasChunk image at
   by_rest [] s = absurd (omega arith)
@@ -81,7 +83,8 @@ run_more {image} {end} r some e = record {
   behind = omega arith;
 }
 
-pub run_done : {image : List ℕ} {at end size : ℕ} → RunsUpTo image at end size → size ≡ 0 → BeginsWithFree image at (end - at)
+pub run_done : {image : List ℕ} {at end size : ℕ} → RunsUpTo image at end size → size ≡ 0
+    → BeginsWithFree image at (end - at)
 run_done {image} {end} r none before after x =
     let k = r.runs before after x in
     let empty = (reads image end k.rest k.spelled).none (omega arith) in omega arith
@@ -130,7 +133,8 @@ in_place_no image found count own behind e b short f =
     let size = found_size image found f in (λ yes. absurd cc, λ enough. absurd (omega arith))
 
 -- the header there
-pub bound_misses : {m : Memory} {at : ℕ} → HoldsHeap m → IsBound m.bytes at → at < length m.bytes → Misses m.lents at 8
+pub bound_misses : {m : Memory} {at : ℕ} → HoldsHeap m → IsBound m.bytes at → at < length m.bytes
+    → Misses m.lents at 8
 bound_misses {m} {at} h b inside =
     walked_misses m _ at h.accepted h.lent (rw (← b.ends.there) at (SpelledAll-split m.bytes (area_start m.bytes) b.before _ _ (heap_in_parts _ _ h.accepted b.ends.chunks).tiles.area).0) inside
 

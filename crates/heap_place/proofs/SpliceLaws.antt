@@ -88,8 +88,7 @@ pub not_listed : (image heads : List ℕ) (class at : ℕ) → HasLists image he
 not_listed image heads class at a below s at_is = one_and_others _ _ _ _ a.count (walk_chain _ _ 0 0 s.walked refl tt) others where
   others : (k : ℕ) → k < class_count → k ≢ class → IsList (ButAt at) image k (slice_index heads k)
   others k low apart =
-      let l = a.lists k low in
-      record {
+      let l = a.lists k low in record {
         count = l.count;
         chain = l.chain;
         each = chain_each _ _ k _ _ (λ x f e. one_class f.of_class (rw (← e) at at_is) apart) l.chain;

@@ -16,7 +16,8 @@ pub cut_claims : (old mid new : List ℕ) (at room size : ℕ) (d : Chunk) → s
 unfolding cut_chunk
 cut_claims old mid new at room size d takes b cut fills r =
     let made = fills (cut_chunk old mid at room size b r cut) in
-    subst (λ n. Becomes old new (r.before ++ ((d ∷ gap (room - n)) ++ r.after))) (sym takes) record { frame = frame_then old mid new b.frame made.frame; layout = made.layout }
+    subst (λ n. Becomes old new (r.before ++ ((d ∷ gap (room - n)) ++ r.after)))
+    (sym takes) record { frame = frame_then old mid new b.frame made.frame; layout = made.layout }
 
 -- and then free chunks were joined or split
 pub claims_same : (old mid new : List ℕ) (at room : ℕ) (d : Chunk) → Claims old mid at room d

@@ -43,7 +43,8 @@ spot_front {image} {at} {size} h some r = by_run r.run r.all_free r.sums r.chunk
 
 -- ---- what is left is put in its list
 
-pub outside_not : (at size there : ℕ) {x : ℕ} → at ≤ there → there < at + size → Outside at size x → x ≢ there
+pub outside_not : (at size there : ℕ) {x : ℕ} → at ≤ there → there < at + size → Outside at size x
+    → x ≢ there
 outside_not at size there low high out e = elim out [ inl before ↦ omega arith | inr behind ↦ omega arith ]
 
 -- nothing is left

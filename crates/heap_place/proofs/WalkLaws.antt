@@ -5,7 +5,8 @@ use Rattle.chunk_format.specs.declared.header.Header.TheVariants as headers
 
 -- ---- a walk
 
-pub passed_start : (image : List ℕ) (P : List Chunk → Type 0) → HeapAccepted image → P [] → Passed image P (area_start image)
+pub passed_start : (image : List ℕ) (P : List Chunk → Type 0) → HeapAccepted image → P []
+    → Passed image P (area_start image)
 passed_start image P h none = record { front = []; spelled = refl; inside = omega arith; holds = none }
 
 pub passed_there : (image : List ℕ) (P : List Chunk → Type 0) (at : ℕ) → HeapAccepted image
@@ -64,7 +65,8 @@ free_within [] = omega arith
 free_within (free size ∷ cs) = let s = sum_by-cons free_size (free size) cs in let ih = free_within cs in omega arith
 free_within (c ∷ cs) = let s = sum_by-cons free_size c cs in let ih = free_within cs in omega arith
 
-pub free_fits : {image : List ℕ} (count : ℕ) {at : ℕ} → Passed image (HaveFreeBytes count) at → count ≤ at
+pub free_fits : {image : List ℕ} (count : ℕ) {at : ℕ} → Passed image (HaveFreeBytes count) at
+    → count ≤ at
 free_fits {image} count {at} p =
     let there = passed_at image (HaveFreeBytes count) at p in let within = free_within p.front in
     omega arith

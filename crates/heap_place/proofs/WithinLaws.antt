@@ -10,7 +10,8 @@ use Rattle.heap_place.proofs.ListLaws.{lists_kept}
 use Rattle.heap_place.proofs.KeepLaws.{NotAmong, keeps_replaced, live_apart}
 
 -- the size of a chunk is that of its first word
-pub first_size : (image : List ℕ) (at : ℕ) (c : Chunk) → Spelled image at c → size_of c ≡ size_field (u32_at image at)
+pub first_size : (image : List ℕ) (at : ℕ) (c : Chunk) → Spelled image at c
+    → size_of c ≡ size_field (u32_at image at)
 first_size image at (free size) s = sym s.size_field
 first_size image at c s = omega arith
 
@@ -35,7 +36,8 @@ keeps_within {old} {new} before c after {at} h g was is none w =
 
 -- ---- of a chunk that was found
 
-pub named_apart : (name at : ℕ) (live : LiveChunk) {c : Chunk} {size : ℕ} → NamedHere name live at c → c ≡ free size → ⊥
+pub named_apart : (name at : ℕ) (live : LiveChunk) {c : Chunk} {size : ℕ} → NamedHere name live at c
+    → c ≡ free size → ⊥
 named_apart name at live n e = subst (λ d. NamedHere name live at d) e n
 
 pub keeps_found : {old new : List ℕ} {found : Found} → HeapAccepted old → HeapAccepted new → (f : IsOne old found) → WroteWithin old new (found.place.0 - 8 + 4) (found.place.0 - 8 + need found.length) → KeepsFree Any old new
@@ -69,8 +71,7 @@ keeps_directory {old} {new} {word} h is names there any b =
     let heap = read_heap old h in let w = wrote_word old new 12 word is (omega arith) in
     let f = free_inside _ _ _ (SpelledAll-takes old _ _ _ heap.tiles.area) b in
     let all = SpelledAll-end old (area_start old) (chunks_of old) (length old) heap.tiles.area in
-    let start = named_start old new word names in
-    record {
+    let start = named_start old new word names in record {
       begins = rw (← start) at (rw (← names.chunks) at b);
       first = wrote_word_apart old new 12 (12 + 4) there w (inr (omega arith, omega arith));
       second = wrote_word_apart old new 12 (12 + 4) (there + 4) w (inr (omega arith, omega arith));

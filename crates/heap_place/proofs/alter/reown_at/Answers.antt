@@ -1,8 +1,5 @@
 -- Another owner is written into the second word, so the chunk has it, and nothing else changes.
-use Rattle.heap_place.proofs.Words.{rules, same_bytes, same_lents}
-use Rattle.heap_place.proofs.AlterLaws.{reowned_there}
-use Rattle.heap_place.proofs.WithinLaws.{keeps_second}
-use Rattle.heap_place.proofs.LentLaws.{one_within, reowned_holds}
+use Rattle.heap_place.proofs.Laws.{rules, same_bytes, same_lents, reowned_there, keeps_second, one_within, reowned_holds}
 use Rattle.heap_place.proofs.alter.reown_at.Goals as goal
 
 pub put_owner-requires-clause-inside : goal.put_owner-requires-clause-inside

@@ -1,10 +1,5 @@
 -- The free chunks from `at` on become one in its list, or the chunk there is live.
-use Rattle.heap_place.proofs.Words.{◌+◌, sym, subst, arith, IsBound, plain_then, rules}
-use Rattle.heap_place.proofs.KeepLaws.{links_chunk, links_plain}
-use Rattle.heap_place.proofs.SpotLaws.{cut_chunk}
-use Rattle.heap_place.proofs.TakeLaws.{chunk_inside, becomes_links}
-use Rattle.heap_place.proofs.GatherLaws.{bound_chunk, bound_spot, spot_least, chunk_bound, header_bound, gathered_lists, passed_lists}
-use Rattle.heap_place.proofs.RunLaws.{bound_misses}
+use Rattle.heap_place.proofs.Laws.{◌+◌, sym, subst, arith, IsBound, plain_then, rules, links_chunk, links_plain, cut_chunk, chunk_inside, becomes_links, bound_chunk, bound_spot, spot_least, chunk_bound, header_bound, gathered_lists, passed_lists, bound_misses}
 use Rattle.heap_place.proofs.gather.gather_at.Goals as goal
 
 pub at_with_size-taken-requires : goal.at_with_size-taken-requires

@@ -1,8 +1,5 @@
 -- The first chunk of a list is free, and its first word has its size.
-use Rattle.heap_place.proofs.Words.{sym, subst, ◌∙◌, IsSpot, IsWithin}
-use Rattle.heap_place.proofs.SpotLaws.{chunk_spot}
-use Rattle.heap_place.proofs.TakeLaws.{listed_chunk}
-use Rattle.heap_place.proofs.LentLaws.{first_within}
+use Rattle.heap_place.proofs.Laws.{sym, subst, ◌∙◌, IsSpot, IsWithin, chunk_spot, listed_chunk, first_within}
 use Rattle.heap_place.proofs.lists.find_listed.Goals as goal
 
 pub size_at-found-requires : goal.size_at-found-requires

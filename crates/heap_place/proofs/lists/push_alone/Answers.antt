@@ -1,8 +1,5 @@
 -- The chunk is put into lists that are empty, so only it is in them.
-use Rattle.heap_place.proofs.Words.{ButAt}
-use Rattle.heap_place.proofs.ListLaws.{new_lists}
-use Rattle.heap_place.proofs.AlikeLaws.{one_word}
-use Rattle.heap_place.proofs.GatherLaws.{alone_lists}
+use Rattle.heap_place.proofs.Laws.{ButAt, new_lists, one_word, alone_lists}
 use Rattle.heap_place.proofs.lists.push_alone.Goals as goal
 
 pub returns-clause-same : goal.returns-clause-same

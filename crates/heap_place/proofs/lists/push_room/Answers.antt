@@ -1,9 +1,5 @@
 -- The room is put into its list, or there is none.
-use Rattle.heap_place.proofs.Words.{arith}
-use Rattle.heap_place.proofs.ListLaws.{lists_weaker}
-use Rattle.heap_place.proofs.TakeLaws.{chunk_inside}
-use Rattle.heap_place.proofs.AlikeLaws.{no_words, one_word}
-use Rattle.heap_place.proofs.GatherLaws.{pushed_lists}
+use Rattle.heap_place.proofs.Laws.{arith, lists_weaker, chunk_inside, no_words, one_word, pushed_lists}
 use Rattle.heap_place.proofs.lists.push_room.Goals as goal
 
 pub push-requires-clause-free : goal.push-requires-clause-free

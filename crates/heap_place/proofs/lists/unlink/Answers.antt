@@ -1,8 +1,5 @@
 -- One chunk that is all the room leaves its list, or all lists are dropped.
-use Rattle.heap_place.proofs.Words.{sym, subst, ◌∙◌, IsFreeChunk}
-use Rattle.heap_place.proofs.TakeLaws.{spot_front}
-use Rattle.heap_place.proofs.AlikeLaws.{taken_outside}
-use Rattle.heap_place.proofs.LentLaws.{first_within}
+use Rattle.heap_place.proofs.Laws.{sym, subst, ◌∙◌, IsFreeChunk, spot_front, taken_outside, first_within}
 use Rattle.heap_place.proofs.lists.unlink.Goals as goal
 
 pub size_at-requires : goal.size_at-requires

@@ -1,6 +1,5 @@
 -- A chunk at a place is lent, in the slot that it names, or fixed.
-use Rattle.heap_place.proofs.Words.{Option, Some, None, IfNone, ℕ, List, HeapAccepted, chunks_of, Found, NothingAt, NoneFixedAs, NoSlotHolds}
-use Rattle.heap_place.proofs.LookupLaws.{nothing_at}
+use Rattle.heap_place.proofs.Laws.{Option, Some, None, IfNone, ℕ, List, HeapAccepted, chunks_of, Found, NothingAt, NoneFixedAs, NoSlotHolds, nothing_at}
 use Rattle.heap_place.proofs.lookup.find_placed.Goals as goal
 
 neither : {image : List ℕ} (place : ℕ) (found : Option Found) → HeapAccepted image → NoSlotHolds image place → IfNone found (NoneFixedAs image place (chunks_of image)) → IfNone found (NothingAt image place)

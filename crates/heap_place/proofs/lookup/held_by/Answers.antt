@@ -1,6 +1,5 @@
 -- The chunk whose place a slot holds is movable and names the slot.
-use Rattle.heap_place.proofs.Words.{arith, found_within}
-use Rattle.heap_place.proofs.LookupLaws.{held_slot, slot_low, slot_live, slot_fields}
+use Rattle.heap_place.proofs.Laws.{arith, found_within, held_slot, slot_low, slot_live, slot_fields}
 use Rattle.heap_place.proofs.lookup.held_by.Goals as goal
 
 pub overflow_sub-place : goal.overflow_sub-place

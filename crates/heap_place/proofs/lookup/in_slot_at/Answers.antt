@@ -1,6 +1,5 @@
 -- A header counts only if the slot that it names holds the place.
-use Rattle.heap_place.proofs.Words.{OnFalse_at, sym, ◌∙◌, arith}
-use Rattle.heap_place.proofs.LookupLaws.{none_begins_holds, slot_unread, low_holds_none, other_holds_none, elsewhere_holds_none, slot_one, movable_place}
+use Rattle.heap_place.proofs.Laws.{OnFalse_at, sym, ◌∙◌, arith, none_begins_holds, slot_unread, low_holds_none, other_holds_none, elsewhere_holds_none, slot_one, movable_place}
 use Rattle.heap_place.proofs.lookup.in_slot_at.Goals as goal
 
 pub returns-then-place-lt-HEADER_SIZE-clause-none : goal.returns-then-place-lt-HEADER_SIZE-clause-none

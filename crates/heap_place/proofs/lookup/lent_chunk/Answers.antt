@@ -1,6 +1,5 @@
 -- The header of a lent body is that of a movable chunk in its slot, or of a fixed one.
-use Rattle.heap_place.proofs.Words.{arith, sym, ◌∙◌}
-use Rattle.heap_place.proofs.LookupLaws.{header_read}
+use Rattle.heap_place.proofs.Laws.{arith, sym, ◌∙◌, header_read}
 use Rattle.heap_place.proofs.LentChunks.{lent_low, lent_misses, lent_has_chunk, lent_movable_one, lent_fixed_one, fixed_at_place}
 use Rattle.heap_place.proofs.lookup.lent_chunk.Goals as goal
 

@@ -1,6 +1,5 @@
 -- A name with a movable chunk is a slot that holds its place.
-use Rattle.heap_place.proofs.Words.{sym, subst, HoldsPlace}
-use Rattle.heap_place.proofs.LookupLaws.{movable_holds_place}
+use Rattle.heap_place.proofs.Laws.{sym, subst, HoldsPlace, movable_holds_place}
 use Rattle.heap_place.proofs.lookup.movable_named.Goals as goal
 
 pub word_of-requires-clause-slot : goal.word_of-requires-clause-slot

@@ -1,6 +1,5 @@
 -- The walk sums the sizes of free chunks up to the first live one.
-use Rattle.heap_place.proofs.Words.{arith}
-use Rattle.heap_place.proofs.RunLaws.{from_bound, from_running, run_start, run_inside, run_more, run_done, bound_misses, bound_on}
+use Rattle.heap_place.proofs.Laws.{arith, from_bound, from_running, run_start, run_inside, run_more, run_done, bound_misses, bound_on}
 use Rattle.heap_place.proofs.release.free_run.Goals as goal
 
 pub loop-size-init : goal.loop-size-init

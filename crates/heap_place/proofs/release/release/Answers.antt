@@ -1,8 +1,5 @@
 -- The header of a free chunk replaces the chunk's, and its slot is emptied.
-use Rattle.heap_place.proofs.Words.{◌∙◌, arith, rules, IsOne, same_bytes, same_lents}
-use Rattle.heap_place.proofs.FoundLaws.{found_inside}
-use Rattle.heap_place.proofs.ReleaseLaws.{given_size, own_slot_within, emptied_loose, emptied_locked, gave_back}
-use Rattle.heap_place.proofs.LentLaws.{one_within, freed_holds}
+use Rattle.heap_place.proofs.Laws.{◌∙◌, arith, rules, IsOne, same_bytes, same_lents, found_inside, given_size, own_slot_within, emptied_loose, emptied_locked, gave_back, one_within, freed_holds}
 use Rattle.heap_place.proofs.release.release.Goals as goal
 
 pub size_of_body-size-requires : goal.size_of_body-size-requires

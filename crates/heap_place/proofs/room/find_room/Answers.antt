@@ -1,6 +1,5 @@
 -- The walk finds a run with the room, or has passed all chunks and found none.
-use Rattle.heap_place.proofs.Words.{◌+◌, ◌++◌, ◌-◌, sym, subst, arith, IsRoom, Searched, walked_misses}
-use Rattle.heap_place.proofs.RoomLaws.{search_start, search_there, search_fits, search_size, search_more, search_found, search_none}
+use Rattle.heap_place.proofs.Laws.{◌+◌, ◌++◌, ◌-◌, sym, subst, arith, IsRoom, Searched, walked_misses, search_start, search_there, search_fits, search_size, search_more, search_found, search_none}
 use Rattle.heap_place.proofs.room.find_room.Goals as goal
 
 pub loop-at-init : goal.loop-at-init

@@ -1,6 +1,5 @@
 -- A body that no image can have has no room.
-use Rattle.heap_place.proofs.Words.{arith}
-use Rattle.laws_heap.proofs.Fits.{no_run_beyond}
+use Rattle.heap_place.proofs.Laws.{arith, no_run_beyond}
 use Rattle.heap_place.proofs.search.spot_for_body.Goals as goal
 
 pub returns-in-None-clause-none : goal.returns-in-None-clause-none

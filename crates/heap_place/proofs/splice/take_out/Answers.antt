@@ -1,10 +1,5 @@
 -- The chunk leaves its list as the first of it, or past the chunk before it.
-use Rattle.heap_place.proofs.Words.{ap, sym, subst, ◌∙◌, arith, slice_set, AreLists, ButAt}
-use Rattle.heap_place.proofs.TakeLaws.{chunk_inside}
-use Rattle.heap_place.proofs.ListLaws.{popped}
-use Rattle.heap_place.proofs.KeepLaws.{free_there}
-use Rattle.heap_place.proofs.AlikeLaws.{chunk_of_class}
-use Rattle.heap_place.proofs.LentLaws.{second_within}
+use Rattle.heap_place.proofs.Laws.{ap, sym, subst, ◌∙◌, arith, slice_set, AreLists, ButAt, chunk_inside, popped, free_there, chunk_of_class, second_within}
 use Rattle.heap_place.proofs.splice.take_out.Goals as goal
 
 pub class_of-class-requires-clause-least : goal.class_of-class-requires-clause-least

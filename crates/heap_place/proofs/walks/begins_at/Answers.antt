@@ -1,7 +1,5 @@
 -- The walk comes to the chunk, or passes all chunks and begins none there.
-use Rattle.heap_place.proofs.Words.{◌+◌, sym, subst, arith, Misses, NoneBeginsAt, Passed}
-use Rattle.heap_place.proofs.WalkLaws.{passed_chunk, passed_misses, passed_all}
-use Rattle.heap_place.proofs.LookupLaws.{begins_passed}
+use Rattle.heap_place.proofs.Laws.{◌+◌, sym, subst, arith, Misses, NoneBeginsAt, Passed, passed_chunk, passed_misses, passed_all, begins_passed}
 use Rattle.heap_place.proofs.walks.begins_at.Goals as goal
 
 pub at_with_size-taken-requires : goal.at_with_size-taken-requires

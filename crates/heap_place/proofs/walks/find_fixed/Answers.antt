@@ -1,7 +1,5 @@
 -- The walk comes to the fixed chunk, or passes all chunks and finds none.
-use Rattle.heap_place.proofs.Words.{◌+◌, sym, subst, ◌∙◌, arith, NoneFixedAs, Passed}
-use Rattle.heap_place.proofs.WalkLaws.{passed_chunk, passed_misses, passed_all}
-use Rattle.heap_place.proofs.LookupLaws.{fixed_found, fixed_there, fixed_passed}
+use Rattle.heap_place.proofs.Laws.{◌+◌, sym, subst, ◌∙◌, arith, NoneFixedAs, Passed, passed_chunk, passed_misses, passed_all, fixed_found, fixed_there, fixed_passed}
 use Rattle.heap_place.proofs.walks.find_fixed.Goals as goal
 
 pub at_with_size-header-requires : goal.at_with_size-header-requires

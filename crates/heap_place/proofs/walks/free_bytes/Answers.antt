@@ -1,6 +1,5 @@
 -- When the walk ends, the free bytes of all chunks are summed.
-use Rattle.heap_place.proofs.Words.{◌+◌, sym, subst, arith, Passed, HaveFreeBytes, free_by}
-use Rattle.heap_place.proofs.WalkLaws.{passed_chunk, passed_misses, passed_size, passed_all, free_fits, free_fits_by, free_passed}
+use Rattle.heap_place.proofs.Laws.{◌+◌, sym, subst, arith, Passed, HaveFreeBytes, free_by, passed_chunk, passed_misses, passed_size, passed_all, free_fits, free_fits_by, free_passed}
 use Rattle.heap_place.proofs.walks.free_bytes.Goals as goal
 
 pub at_with_size-header-requires : goal.at_with_size-header-requires
