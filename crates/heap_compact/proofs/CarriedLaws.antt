@@ -35,8 +35,7 @@ IsLive-carried_down {ys} {at} {by} {bytes} {lock} {owner} carry inside s =
     let second = u32_at-carried (at + 4) by _ _ _ _ carry (omega arith) (omega arith) in
     let body = slice-carried _ _ by _ _ _ _ carry (omega arith) (omega arith) (omega arith) (omega arith) in
     let e : at + by + 4 ≡ at + 4 + by = omega arith in
-    let f : at + by + 8 ≡ at + 8 + by = omega arith in
-    record {
+    let f : at + by + 8 ≡ at + 8 + by = omega arith in record {
       first_word = sym first ∙ s.first_word;
       size_fits = s.size_fits;
       second_word = sym second ∙ sym (ap (u32_at ys) e) ∙ s.second_word;

@@ -43,7 +43,8 @@ module _ {old : List ℕ} {start end gap : ℕ} (h : HeapAccepted old) (b : HasF
       let copied = wrote_part old _ (start + gap) part slid_is (omega (arith, many, inside, f.sizes, count)) in
       let word = wrote_word slid _ start (2 ^ 31 + gap) new_is (omega (arith, inside, f.sizes, copied.len, least)) in
       let up : Carries gap start (start + n) old slid = rw (← slid_is) at (slid_up old start gap n (omega (arith, inside, f.sizes, count))) in
-      let kept = SameBetween-within _ _ (start + gap) (start + n + gap) _ _ word.above (omega (arith, least)) (omega (arith, inside, f.sizes, copied.len, count)) in
+      let kept = SameBetween-within _ _ (start + gap) (start + n + gap) _ _ word.above
+      (omega (arith, least)) (omega (arith, inside, f.sizes, copied.len, count)) in
       let carry : Carries gap start (start + total b.mid) old new = rw last at (Carries-then _ _ _ _ _ _ up kept) in
       let spelled = SpelledAll-carried _ b.mid carry (omega (arith, inside, f.sizes, copied.len, word.len)) f.chunks in
       let e : start + total b.mid + gap ≡ end_then = omega (arith, f.sizes) in
@@ -58,7 +59,8 @@ module _ {old : List ℕ} {start end gap : ℕ} (h : HeapAccepted old) (b : HasF
         fits = omega (arith, f.sizes, least);
       } in
       let none = both_hold_none b.mid (free gap ∷ []) (loose_hold_none b.mid b.loose) tt in
-      let r = area_replaces _ _ b.before (b.mid ++ free gap ∷ []) (free gap ∷ all_carried gap b.mid) b.after _ f.heap_in_two.tiles none b.from inside w all in
+      let r = area_replaces _ _ b.before (b.mid ++ free gap ∷ [])
+      (free gap ∷ all_carried gap b.mid) b.after _ f.heap_in_two.tiles none b.from inside w all in
       let whole = wrote_then _ _ new _ _ w.area (wrote_wider _ _ _ _ start end_then word (omega arith) (omega (arith, f.sizes, least))) in
       record {
         heap = f.heap;

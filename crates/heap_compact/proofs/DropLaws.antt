@@ -32,8 +32,7 @@ drop_facts {old} {at} {room} {slot} to h d e =
     let m = middle_of _ d.before (free room ∷ c ∷ []) d.after _ heap to_is in
     let here : IsBody (area_start old) (d.before ++ free room ∷ c ∷ d.after) slot (at + 8) =
     AnyPlaced-right _ _ d.before _ (inr (inl (refl, omega (arith, d.there)))) in
-    let tied = (heap.tied slot (at + 8) (omega arith)).1 here in
-    record {
+    let tied = (heap.tied slot (at + 8) (omega arith)).1 here in record {
       accepted = h;
       heap = heap;
       middle = m;
@@ -110,7 +109,8 @@ module _ {old : List ℕ} {at room size slot to : ℕ} {d : IsDroppable old at r
             | inr behind ↦
                 let low = IsBody-low _ _ name _ behind in
                 let e : area_start old + total d.before + size_of c + room ≡ area_start old + total d.before + room + size_of c = omega arith in
-                elsewhere name _ some (AnyPlaced-right _ _ d.before _ (inr (inr (rw e at behind)))) (λ e. omega (arith, low, f.to_is, f.at_is, e))
+                elsewhere name _ some (AnyPlaced-right _ _ d.before _ (inr (inr (rw e at behind))))
+                (λ e. omega (arith, low, f.to_is, f.at_is, e))
           ]
         ]
       ]
@@ -166,7 +166,8 @@ module _ {old : List ℕ} {at room size slot to : ℕ} {d : IsDroppable old at r
         let f_hole : IsFree hole (to + size) room = has_free _ _ _ rest in
         let f_new = Spelled-same hole new (to + size) (free room) (beside_same _ _ _ to end (to + size) (to + size + room) four f.beside (omega arith) (omega (arith, d.takes)) (omega (arith, f.inside, d.takes, len))) four.len f_hole in
         let spelled : SpelledAll new to (c ∷ free room ∷ []) end = (c_new, (rw d.takes at f_new, omega arith)) in
-        let r = area_replaces _ _ d.before (free room ∷ c ∷ []) (c ∷ free room ∷ []) d.after _ f.heap.tiles tt f.to_is f.middle.inside w spelled in
+        let r = area_replaces _ _ d.before (free room ∷ c ∷ [])
+        (c ∷ free room ∷ []) d.after _ f.heap.tiles tt f.to_is f.middle.inside w spelled in
         let others : (other : ℕ) → IsSlot old other → other ≢ slot → u32_at new other ≡ u32_at old other =
         λ other o ne. area_slots _ _ d.before (free room ∷ c ∷ []) d.after _ _ f.heap.tiles tt f.to_is w o (λ e. ne (sym e)) in
         let own : u32_at new slot ≡ to + 8 = ap (λ (bs : List ℕ). u32_at bs slot) new_is ∙ u32_at-written (to + 8) slot hole (omega (arith, f.facts.inside, len)) (omega (arith, f.inside, f.middle.most)) in

@@ -13,10 +13,12 @@ pub exactly_then : {old mid new : List ℕ} {cs ds : List Chunk} → BecomesExac
     → BecomesExactly mid new ds → BecomesExactly old new ds
 exactly_then {old} {mid} {new} a b = record { frame = frame_then _ _ _ a.frame b.frame; exact = b.exact; plain = plain_then old mid new a.plain b.plain }
 
-pub exactly_becomes : {old new : List ℕ} {cs : List Chunk} → BecomesExactly old new cs → Becomes old new cs
+pub exactly_becomes : {old new : List ℕ} {cs : List Chunk} → BecomesExactly old new cs
+    → Becomes old new cs
 exactly_becomes b = record { frame = b.frame; layout = ap merged b.exact }
 
-pub exactly_start : {old new : List ℕ} {cs : List Chunk} → BecomesExactly old new cs → area_start new ≡ area_start old
+pub exactly_start : {old new : List ℕ} {cs : List Chunk} → BecomesExactly old new cs
+    → area_start new ≡ area_start old
 exactly_start b = becomes_start _ _ _ (exactly_becomes b)
 
 -- and then links were written

@@ -20,7 +20,8 @@ named_one found n f = record {
 }
 
 -- the name 0 names no chunk that was found
-pub some_name : {image : List ℕ} (found : Found) → HeapAccepted image → IsOne image found → found.name.0 ≢ 0
+pub some_name : {image : List ℕ} (found : Found) → HeapAccepted image → IsOne image found
+    → found.name.0 ≢ 0
 some_name {image} found h f none = let nothing = sym (one_held _ _ h f) ∙ ap (held image) none ∙ held-zero _ h in absurd cc
 
 -- the directory's chunk is the manager's once it was moved

@@ -33,7 +33,8 @@ runs_greatest more (movable bytes (suc count) owner slot ∷ cs) = stays_behind 
 runs_greatest more (fixed bytes owner ∷ cs) = stays_behind more cs (runs_greatest 0 cs)
 
 -- a run without chunks has no room
-some_greatest : (runs : List (List Chunk)) → greatest (rooms_of (filter has_chunk runs)) ≡ greatest (rooms_of runs)
+some_greatest : (runs : List (List Chunk))
+    → greatest (rooms_of (filter has_chunk runs)) ≡ greatest (rooms_of runs)
 some_greatest [] = refl
 some_greatest ([] ∷ runs) = let ih = some_greatest runs in let none : room_of [] ≡ 0 = refl in omega (arith, ih)
 some_greatest ((c ∷ run) ∷ runs) = ap (λ (n : ℕ). max (room_of (c ∷ run)) n) (some_greatest runs)
@@ -78,10 +79,12 @@ rooms_go_on {largest} {room} {cs} (movable bytes zero owner slot) loose h = reco
 rooms_go_on (movable bytes (suc count) owner slot) loose h = absurd (loose (omega arith))
 rooms_go_on (fixed bytes owner) loose h = absurd (loose tt)
 
-pub rooms_start : {image : List ℕ} → HeapAccepted image → Passed image (HaveRooms 0 0) (area_start image)
+pub rooms_start : {image : List ℕ} → HeapAccepted image
+    → Passed image (HaveRooms 0 0) (area_start image)
 rooms_start h = passed_start _ (HaveRooms 0 0) h no_rooms
 
-pub rooms_fit : {image : List ℕ} (largest room : ℕ) {at : ℕ} → Passed image (HaveRooms largest room) at → room ≤ at
+pub rooms_fit : {image : List ℕ} (largest room : ℕ) {at : ℕ}
+    → Passed image (HaveRooms largest room) at → room ≤ at
 rooms_fit largest room p = omega (arith, passed_at _ _ _ p, p.holds.fits)
 
 pub rooms_closed : {image : List ℕ} (largest room : ℕ) {at : ℕ} {header : Header} → Passed image (HaveRooms largest room) at → HasHeader image at header → HeaderStays header → Passed image (HaveRooms (max largest room) 0) (at + size_by header)

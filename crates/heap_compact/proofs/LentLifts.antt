@@ -22,8 +22,7 @@ lifted_within {m} {start} {end} {gap} h b =
 
 pub lifted_holds : {old new : Memory} {start end gap : ℕ} → HoldsHeap old → new.lents ≡ old.lents → HasFreeBehind old.bytes start end gap → Lifts old.bytes new.bytes start end gap → HoldsHeap new
 lifted_holds {old} {new} {gap} h same b lifts =
-    let sizes = total-append b.mid (free gap ∷ []) in let x = lifts b in
-    record {
+    let sizes = total-append b.mid (free gap ∷ []) in let x = lifts b in record {
       accepted = x.frame.accepted;
       lent = loose_lends old new b.before _ (free gap ∷ b.mid) b.after h.lent same (in_parts b)
           (exactly_becomes x) (omega (arith, sizes)) (none_stay b);

@@ -21,7 +21,8 @@ regrown_within {m} {found} {more} h r other =
           let f = r.one.finds in let p = lent_chunk m.bytes lent x in
           let size = found_size m.bytes found r.one in
           let t = total-append f.before (r.one.chunk ∷ []) in
-          let e = f.chunks ∙ ap (λ cs. f.before ++ r.one.chunk ∷ cs) r.parts ∙ sym (append_assoc f.before (r.one.chunk ∷ []) (r.run ++ r.rest)) in
+          let e = f.chunks ∙ ap (λ cs. f.before ++ r.one.chunk ∷ cs) r.parts
+          ∙ sym (append_assoc f.before (r.one.chunk ∷ []) (r.run ++ r.rest)) in
           elim (apart _ r.one.chunk f.after p.before p.chunk p.after (sym f.chunks ∙ p.chunks)) [
             | in_front k ↦ elim (run_apart (f.before ++ r.one.chunk ∷ []) r.run r.rest p.before p.chunk p.after (sym e ∙ p.chunks) (all_free_loose r.run r.all_free) p.is.one) [
               | inl j ↦ absurd (omega (arith, j, k, t, p.is.fits))
@@ -73,11 +74,11 @@ packed_total room (fixed bytes owner) = refl
 pub packed_holds : {old new : Memory} {at room size moved room_then : ℕ} {b : IsBehindRoom old.bytes at room} → HoldsHeap old → new.lents ≡ old.lents → PackedOne b new.bytes size moved room_then → HoldsHeap new
 packed_holds {old} {new} {room} {b} h same p =
     let chunks = b.chunks ∙ ap (λ cs. b.before ++ cs) (sym (append_assoc (gap room) (b.chunk ∷ []) b.after)) in
-    let x = p.becomes in
-    record {
+    let x = p.becomes in record {
       accepted = x.frame.accepted;
       lent = replaced_lends old new b.before _ (packed_one room b.chunk) b.after h.lent same chunks
-          (record { frame = x.frame; layout = ap merged x.exact }) (packed_total room b.chunk) (λ lent is y. packed_keeps room b.chunk lent _ y);
+          (record { frame = x.frame; layout = ap merged x.exact }) (packed_total room b.chunk)
+          (λ lent is y. packed_keeps room b.chunk lent _ y);
     }
 
 -- ---- a resized chunk
@@ -85,8 +86,7 @@ packed_holds {old} {new} {room} {b} h same p =
 pub resized_holds : {old new : Memory} {found : Found} (count : ℕ) {more : ℕ} → HoldsHeap old → new.lents ≡ old.lents → (r : RunBehind old.bytes found more) → LendsOther old found.place.0 → Resizes old.bytes new.bytes found count more
     → total (with_length count r.one.chunk ∷ gap (size_of r.one.chunk + more - need count)) ≡ total (r.one.chunk ∷ r.run) → HoldsHeap new
 resized_holds {old} {new} {found} count {more} h same r other x sizes =
-    let f = r.one.finds in
-    record {
+    let f = r.one.finds in record {
       accepted = (x r).frame.accepted;
       lent = replaced_lends old new f.before (r.one.chunk ∷ r.run) (with_length count r.one.chunk ∷ gap (size_of r.one.chunk + more - need count)) r.rest h.lent same
           (f.chunks ∙ ap (λ (cs : List Chunk). f.before ++ r.one.chunk ∷ cs) r.parts) (x r) sizes

@@ -24,19 +24,22 @@ managers_anywhere slot m n (c ∷ cs) h = elim h [ inl here ↦ inl (managers_he
 
 -- ---- where bodies are, once their chunks went up
 
-body_up : (slot place at by : ℕ) (c : Chunk) → BodyHere slot place at c → BodyHere slot (place + by) (at + by) c
+body_up : (slot place at by : ℕ) (c : Chunk) → BodyHere slot place at c
+    → BodyHere slot (place + by) (at + by) c
 body_up slot place at by (free size) b = b
 body_up slot place at by (movable bytes lock owner named) b = let e = b.1 in (b.0, omega arith)
 body_up slot place at by (fixed bytes owner) b = b
 
-bodies_up : (slot place at by : ℕ) (cs : List Chunk) → IsBody at cs slot place → IsBody (at + by) cs slot (place + by)
+bodies_up : (slot place at by : ℕ) (cs : List Chunk) → IsBody at cs slot place
+    → IsBody (at + by) cs slot (place + by)
 bodies_up slot place at by [] b = b
 bodies_up slot place at by (c ∷ cs) b = elim b [
   | inl here ↦ inl (body_up slot place at by c here)
   | inr later ↦ let e : at + size_of c + by ≡ at + by + size_of c = omega arith in inr (rw e at (bodies_up slot place (at + size_of c) by cs later))
 ]
 
-body_down : (slot place at by : ℕ) (c : Chunk) → BodyHere slot place (at + by) c → BodyHere slot (place - by) at c
+body_down : (slot place at by : ℕ) (c : Chunk) → BodyHere slot place (at + by) c
+    → BodyHere slot (place - by) at c
 body_down slot place at by (free size) b = b
 body_down slot place at by (movable bytes lock owner named) b = let e = b.1 in (b.0, omega arith)
 body_down slot place at by (fixed bytes owner) b = b
@@ -164,7 +167,8 @@ module _ {gap : ℕ} {u : Lift gap} {image : List ℕ} {moved : List Chunk} {at 
     λ b. let s = to_old slot place (rw new_start at b) in (slot_new slot s.0, s.1),
   )
 
-  known_again : NoneStays moved → EveryPlaced (IsKnownIfFixed (further_tables image)) (area_start image) lifted
+  known_again : NoneStays moved
+      → EveryPlaced (IsKnownIfFixed (further_tables image)) (area_start image) lifted
   known_again loose =
       let known : ℕ → Chunk → Type 0 = IsKnownIfFixed (further_tables u.old) in
       let first = EveryPlaced-split known (area_start u.old) u.before _ l.heap.fixed_are_known in
@@ -211,7 +215,8 @@ module _ {gap : ℕ} {u : Lift gap} {image : List ℕ} {moved : List Chunk} {at 
       (rw (let same : at + total [] ≡ start + total (moved ++ free gap ∷ []) = omega (arith, sizes, end) in same) at l.back)
       (free_plain image start gap moved word small (lives_plain image (start + gap) _ live))
 
-  pub lift_done : gap < 2 ^ 24 → lives moved ≡ moved → NoneStays moved → BecomesExactly u.old image lifted
+  pub lift_done : gap < 2 ^ 24 → lives moved ≡ moved → NoneStays moved
+      → BecomesExactly u.old image lifted
   lift_done small live loose = record {
     frame = record { accepted = (lifted, heap_again loose); len = l.len; tables = l.tables; slots = l.slots; directory = l.directory };
     exact = chunks_of-tiled _ _ l.tiles;

@@ -28,8 +28,7 @@ module _ {first image : List ℕ} {gap start at end : ℕ} (w : Walks first imag
     one_more : (back : List Chunk) → rest ≡ s.front ++ back → Lifting u image (done ++ s.front) back at → end ≡ at + total back → MendedUpTo u new done rest next end
     one_more [] parts k ends = absurd (omega (arith, ends, more))
     one_more (c ∷ back) parts k ends =
-        let m = mends u (done ++ s.front) c back k in
-        record {
+        let m = mends u (done ++ s.front) c back k in record {
           front = s.front ++ c ∷ [];
           back = back;
           parts = parts ∙ sym (append_assoc s.front (c ∷ []) back);
@@ -58,14 +57,17 @@ module _ {first image : List ℕ} {gap start at end : ℕ} (w : Walks first imag
 module _ {image : List ℕ} {gap at end : ℕ} (a : AreCarried image gap at end) (more : at < end) where
   pub walk_next : IsCarried image gap at
   walk_next = next a.rest a.lifting a.ends where
-    next : (rest : List Chunk) → Lifting a.lift image a.done rest at → end ≡ at + total rest → IsCarried image gap at
+    next : (rest : List Chunk) → Lifting a.lift image a.done rest at → end ≡ at + total rest
+        → IsCarried image gap at
     next [] l e = absurd (omega (arith, e, more))
     next (c ∷ rest) l e = record { lift = a.lift; done = a.done; chunk = c; rest = rest; lifting = l }
 
   -- the walk goes on, and not beyond its end
-  pub walk_on : {new : List ℕ} {next : ℕ} → MendsOne image new gap at next → (at < next) × (next ≤ end)
+  pub walk_on : {new : List ℕ} {next : ℕ} → MendsOne image new gap at next
+      → (at < next) × (next ≤ end)
   walk_on {next} mends = on a.rest a.lifting a.ends where
-    on : (rest : List Chunk) → Lifting a.lift image a.done rest at → end ≡ at + total rest → (at < next) × (next ≤ end)
+    on : (rest : List Chunk) → Lifting a.lift image a.done rest at → end ≡ at + total rest
+        → (at < next) × (next ≤ end)
     on [] l e = absurd (omega (arith, e, more))
     on (c ∷ rest) l e =
         let is = (mends a.lift a.done c rest l).there in let both = total-append a.done (c ∷ []) in

@@ -39,7 +39,8 @@ pub record NextOf {gap : ℕ} (u : Lift gap) (image : List ℕ) (done : List Chu
 -- the tiles, with a chunk among those that are mended
 grown_tiles : {image : List ℕ} (before done : List Chunk) (c : Chunk) (others : List Chunk) (gap : ℕ) → Tiles image ((before ++ free gap ∷ done) ++ c ∷ others) → Tiles image (before ++ free gap ∷ ((done ++ c ∷ []) ++ others))
 grown_tiles {image} before done c others gap t =
-    subst (λ cs. Tiles image (before ++ free gap ∷ cs)) (sym (append_assoc done _ others)) (rw (append_assoc before (free gap ∷ done) (c ∷ others)) at t)
+    subst (λ cs. Tiles image (before ++ free gap ∷ cs)) (sym (append_assoc done _ others))
+    (rw (append_assoc before (free gap ∷ done) (c ∷ others)) at t)
 
 module _ {gap : ℕ} {u : Lift gap} {image : List ℕ} {done : List Chunk} {c : Chunk} {rest : List Chunk} {at : ℕ} (l : Lifting u image done (c ∷ rest) at) where
   abbrev others : List Chunk
@@ -53,12 +54,12 @@ module _ {gap : ℕ} {u : Lift gap} {image : List ℕ} {done : List Chunk} {c : 
       let both = total-append u.before done in let more = total-append u.before (free gap ∷ done) in
       let starts = start_listed u.old image l.tables in
       let at_is : at ≡ area_start image + total front = omega (arith, l.there, more, starts) in
-      let tiles : Tiles image (front ++ carried gap c ∷ others) = rw (← (append_assoc u.before (free gap ∷ done) (carried gap c ∷ others))) at l.tiles in
+      let tiles : Tiles image (front ++ carried gap c ∷ others) =
+      rw (← (append_assoc u.before (free gap ∷ done) (carried gap c ∷ others))) at l.tiles in
       let parts = SpelledAll-split image (area_start image) front _ (length image) tiles.area in
       let spelled : Spelled image at (carried gap c) = rw (← at_is) at parts.1.0 in
       let units = total_whole image (area_start image) front _ parts.0 in
-      let in_front = (SpelledAll-split image _ u.before (free gap ∷ done) _ parts.0).1 in
-      record {
+      let in_front = (SpelledAll-split image _ u.before (free gap ∷ done) _ parts.0).1 in record {
         was = area_start u.old + total (u.before ++ done);
         was_is = refl;
         at_is = omega (arith, l.there, both);
@@ -176,13 +177,16 @@ module _ {gap : ℕ} {u : Lift gap} {image : List ℕ} {done : List Chunk} {byte
         } in
         let spelled_mid : Spelled mid at c = reslots bytes lock owner _ m.next.spelled in
         let spelled_new = Spelled-same mid new at c (beside_same _ _ _ at (at + need (length bytes)) at (at + need (length bytes)) word m.beside (omega arith) (omega arith) (omega (arith, inside, head_wrote.len))) word.len spelled_mid in
-        let r = area_replaces _ _ (front l) (carried gap c ∷ []) (c ∷ []) (others l) _ m.next.tiles tt there (omega (arith, inside)) w (spelled_new, omega arith) in
+        let r = area_replaces _ _ (front l) (carried gap c ∷ []) (c ∷ [])
+        (others l) _ m.next.tiles tt there (omega (arith, inside)) w (spelled_new, omega arith) in
         let tiles = replaced_tiles _ _ _ _ _ _ _ m.next.tiles r in
         let slots : (other : ℕ) → IsSlot u.old other → other ≢ slot → u32_at new other ≡ u32_at image other =
         λ other o ne. area_slots _ _ (front l) (carried gap c ∷ []) (others l) _ _ m.next.tiles tt there w (slot_alike _ image _ l.slots o) (λ e. ne (sym e)) in
         let own : u32_at new slot ≡ at + 8 = ap (λ (bs : List ℕ). u32_at bs slot) new_is ∙ u32_at-written (at + 8) slot mid (omega (arith, m.facts.inside, head_wrote.len)) (omega (arith, inside, m.next.most)) in
-        let in_front = EveryPlaced-split (λ there d. u32_at new there ≡ u32_at image there) (area_start image) u.before (free gap ∷ done) r.front.words in
-        let behind = EveryPlaced-split (λ there d. u32_at new there ≡ u32_at image there) (at + total (carried gap c ∷ [])) (all_carried gap rest) u.after r.back.words in
+        let in_front = EveryPlaced-split (λ there d. u32_at new there ≡ u32_at image there)
+        (area_start image) u.before (free gap ∷ done) r.front.words in
+        let behind = EveryPlaced-split (λ there d. u32_at new there ≡ u32_at image there)
+        (at + total (carried gap c ∷ [])) (all_carried gap rest) u.after r.back.words in
         let sizes = carried_total gap rest in
         let was : at + total (c ∷ rest) ≡ at + need (length bytes) + total rest = omega arith in
         let is : at + total (carried gap c ∷ []) + total (all_carried gap rest) ≡ at + need (length bytes) + total rest = omega (arith, sizes) in
@@ -239,8 +243,7 @@ mends {gap} {u} {image} {done} (movable bytes k v slot) {rest} {at} {size} {name
     let e = header_there (carried gap (movable bytes k v slot)) m.next.spelled found in
     let d : named ≡ (slot + gap) % 2 ^ 25 = cc in let up : named ≡ slot + gap = d ∙ m.unwound in
     let takes : need (length bytes) ≡ size = sym (size_is ∙ ap size_by e) in
-    let back : named - gap ≡ slot = omega (arith, up) in
-    record {
+    let back : named - gap ≡ slot = omega (arith, up) in record {
       up = omega (arith, up);
       can = subst (λ (n : ℕ). CanMend image at n) (sym back) record {
         low = omega (arith, m.facts.inside, m.next.most);
@@ -261,7 +264,8 @@ stepped_kept {u} {image} {done} (free more) {rest} {at} l found size_is not_mova
     subst (λ k. Lifting u image (done ++ free more ∷ []) rest (at + k)) (sym (size_is ∙ ap size_by e)) (step_kept l refl (λ slot place n b. b))
 stepped_kept {u} {image} {done} (fixed bytes v) {rest} {at} l found size_is not_movable =
     let e = header_there (fixed bytes v) (next_of l).spelled found in
-    subst (λ k. Lifting u image (done ++ fixed bytes v ∷ []) rest (at + k)) (sym (size_is ∙ ap size_by e)) (step_kept l refl (λ slot place n b. b))
+    subst (λ k. Lifting u image (done ++ fixed bytes v ∷ []) rest (at + k))
+    (sym (size_is ∙ ap size_by e)) (step_kept l refl (λ slot place n b. b))
 stepped_kept {gap} (movable bytes k v slot) l found size_is not_movable =
     let e = header_there (carried gap (movable bytes k v slot)) (next_of l).spelled found in
     absurd (not_movable (length bytes) k v ((slot + gap) % 2 ^ 25) e)

@@ -23,7 +23,8 @@ moved_none size none = ap (λ (k : ℕ). cond {A = ℕ} (k == 0) 0 size) none
 
 loose_named : (c : Chunk) {slot : ℕ} → (HeaderStays (header_of c) → ⊥) → slot_by (header_of c) ≡ Some slot → (bytes : List ℕ) × (owner : ℕ) × (c ≡ movable bytes 0 owner slot)
 loose_named (free n) goes e = absurd cc
-loose_named (movable bytes zero owner named) {slot} goes e = let same : named ≡ slot = cc in (bytes, owner, ap (λ n. movable bytes 0 owner n) same)
+loose_named (movable bytes zero owner named) {slot} goes e =
+    let same : named ≡ slot = cc in (bytes, owner, ap (λ n. movable bytes 0 owner n) same)
 loose_named (movable bytes (suc count) owner named) goes e = absurd (goes (omega arith))
 loose_named (fixed bytes owner) goes e = absurd (goes tt)
 
@@ -33,7 +34,8 @@ some_slot (headers.Movable length lock owner slot) some = (slot, refl)
 some_slot (headers.Fixed length owner) some = absurd cc
 
 -- a chunk that doesn't stay and isn't free names a slot
-pub slot_there : (header : Header) → IsNotFree header → (HeaderStays header → ⊥) → IsSome (slot_by header)
+pub slot_there : (header : Header) → IsNotFree header → (HeaderStays header → ⊥)
+    → IsSome (slot_by header)
 slot_there (headers.Free size) isnt goes = absurd (isnt size refl)
 slot_there (headers.Movable length lock owner slot) isnt goes = refl
 slot_there (headers.Fixed length owner) isnt goes = absurd (goes tt)
@@ -138,10 +140,12 @@ module _ {old : List ℕ} {at room : ℕ} (h : HeapAccepted old) (b : IsBehindRo
       let named = some_slot header (slot_there header isnt goes) in
       let l = loose found goes named.1 size_is in let w : Chunk = movable l.0 0 l.1 named.0 in
       let g = gap_none none in
-      let chunks = with_chunk w l.2 ∙ ap (λ (k : List Chunk). b.before ++ (k ++ w ∷ b.after)) g ∙ ap (λ (k : List Chunk). b.before ++ w ∷ (k ++ b.after)) (sym g) in
+      let chunks = with_chunk w l.2 ∙ ap (λ (k : List Chunk). b.before ++ (k ++ w ∷ b.after)) g
+      ∙ ap (λ (k : List Chunk). b.before ++ w ∷ (k ++ b.after)) (sym g) in
       packed_as b w l.2 (exactly_itself h chunks) (takes found goes named.1 size_is) (sym (moved_none _ none)) (sym none)
 
-  pub packed_kept : {header : Header} {size : ℕ} → HasHeader old at header → IsNotFree header → size ≡ size_by header
+  pub packed_kept : {header : Header} {size : ℕ} → HasHeader old at header → IsNotFree header
+      → size ≡ size_by header
       → HeaderStays header ⊎ ((HeaderStays header → ⊥) × (room ≡ 0)) → PackedOne b old size 0 0
   packed_kept found isnt size_is why = elim why [
     | inl stay ↦ staying found stay size_is
@@ -164,7 +168,8 @@ kept_linked p s =
 
 -- ---- all of them
 
-pub packing_start : {old : List ℕ} (start end : ℕ) → HeapAccepted old → PacksUpTo old old start end start 0 0
+pub packing_start : {old : List ℕ} (start end : ℕ) → HeapAccepted old
+    → PacksUpTo old old start end start 0 0
 packing_start start end h = λ run.
     record { done = []; rest = _; becomes = exactly_itself h run.chunks; packs = refl; there = omega arith; ends = run.to; moved_is = omega arith; room_is = refl }
 
@@ -206,8 +211,7 @@ module _ {old : List ℕ} {start end : ℕ} {run : IsRun old start end} {new : L
   -- one more is packed
   grown : (c : Chunk) {rest : List Chunk} {size more room_then : ℕ} → Behind run new at moved room done c rest size more room_then → Packing run new (at + size) (moved + more) room_then
   grown (free n) {rest} b =
-      let same = ap (λ (k : ℕ). moved_behind k rest) b.room_is in
-      record {
+      let same = ap (λ (k : ℕ). moved_behind k rest) b.room_is in record {
         done = done;
         rest = rest;
         becomes = rw (← b.room_is) at b.becomes;
@@ -219,8 +223,7 @@ module _ {old : List ℕ} {start end : ℕ} {run : IsRun old start end} {new : L
       }
   grown (movable bytes zero owner slot) {rest} {room_then} b =
       let v : Chunk = movable bytes 0 owner slot in let same : room_then ≡ room = b.room_is in
-      let rest_same = ap (λ (k : ℕ). moved_behind k rest) same in
-      record {
+      let rest_same = ap (λ (k : ℕ). moved_behind k rest) same in record {
         done = done ++ v ∷ [];
         rest = rest;
         becomes = rw (← (append_assoc done (v ∷ []) (gap room_then ++ (rest ++ run.after)))) at (rw (← same) at b.becomes);
@@ -242,7 +245,8 @@ pub record AllPacked {old : List ℕ} {start end : ℕ} (run : IsRun old start e
 
 module _ {old image : List ℕ} {start end : ℕ} {run : IsRun old start end} {at moved room : ℕ} (k : Packing run image at moved room) where
   -- the next chunk, after the room
-  abbrev next_behind : (c : Chunk) (rest : List Chunk) → k.rest ≡ c ∷ rest → IsBehindRoom image at room
+  abbrev next_behind : (c : Chunk) (rest : List Chunk) → k.rest ≡ c ∷ rest
+      → IsBehindRoom image at room
   next_behind c rest is = record {
     before = run.before ++ k.done;
     chunk = c;
@@ -293,7 +297,8 @@ moved_low room size = elim (cases_eq room 0) [ inl none ↦ let e = moved_none s
 moved_few : (room : ℕ) (cs : List Chunk) → moved_behind room cs ≤ total cs
 moved_few room [] = omega arith
 moved_few room (free size ∷ cs) = let few = moved_few (room + size) cs in omega arith
-moved_few room (movable bytes zero owner slot ∷ cs) = let few = moved_few room cs in let low = moved_low room (need (length bytes)) in omega arith
+moved_few room (movable bytes zero owner slot ∷ cs) =
+    let few = moved_few room cs in let low = moved_low room (need (length bytes)) in omega arith
 moved_few room (movable bytes (suc count) owner slot ∷ cs) = let few = moved_few 0 cs in omega arith
 moved_few room (fixed bytes owner ∷ cs) = let few = moved_few 0 cs in omega arith
 
@@ -319,7 +324,8 @@ module _ {old image : List ℕ} {start end at moved room : ℕ} (w : PacksUpTo o
       record { on = omega (arith, least, (p b).size_is); within = omega (arith, next.ends); few = omega (arith, next.moved_is, few, run.to) }
 
   -- the room after what is packed
-  pub room_packed : IsRun old start end → (room ≤ at) × (0 < room → IsFreeChunk image (at - room) room)
+  pub room_packed : IsRun old start end
+      → (room ≤ at) × (0 < room → IsFreeChunk image (at - room) room)
   room_packed run =
       let k = w run in (
         omega (arith, k.there),
@@ -349,7 +355,8 @@ compacted {old} {new} h from to p =
     subst (λ cs. BecomesExactly old new cs) (append-nil (packed (chunks_of old))) (p (run_whole h from to))
 
 -- the header after room misses what is lent
-pub behind_misses : {m : Memory} {at room : ℕ} → HoldsHeap m → IsBehindRoom m.bytes at room → Misses m.lents at 8
+pub behind_misses : {m : Memory} {at room : ℕ} → HoldsHeap m → IsBehindRoom m.bytes at room
+    → Misses m.lents at 8
 behind_misses {m} {at} {room} h b =
     let t = total-append b.before (gap room) in
     header_misses m _ _ _ at h.accepted h.lent (b.chunks ∙ sym (append_assoc b.before (gap room) (b.chunk ∷ b.after))) (omega (arith, b.there, t, gap_total room))
@@ -363,6 +370,7 @@ pub join_misses : {m : Memory} {at room n : ℕ} → HoldsHeap m → IsBehindRoo
 join_misses {m} {at} {room} {n} h b found =
     let least : 8 ≤ n = (joins h.accepted b found refl).is_free.header_fits in
     let t = total-append (gap room) (free n ∷ []) in
-    let e = with_chunk h.accepted b (free n) (is_free h.accepted b found refl) ∙ ap (λ cs. b.before ++ cs) (sym (append_assoc (gap room) (free n ∷ []) b.after)) in
+    let e = with_chunk h.accepted b (free n) (is_free h.accepted b found refl)
+    ∙ ap (λ cs. b.before ++ cs) (sym (append_assoc (gap room) (free n ∷ []) b.after)) in
     let lent = loose_misses m _ _ b.after _ h.lent e (omega (arith, b.there)) (gap_loose room n) in
     part_misses m.lents (at - room) _ (at - room) 8 lent (omega arith) (omega (arith, t, least))

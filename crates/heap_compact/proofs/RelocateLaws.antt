@@ -17,8 +17,7 @@ pub found_held : (image : List ℕ) (found : Found) (live : LiveChunk) → HeapA
 found_held image found live h is there count lock owner =
     let k = held_finds _ found.name.0 live h is in
     let place : found.place.0 ≡ k.at + 8 = same _ _ (sym there ∙ finds_place _ _ _ _ _ h k.finds) in
-    let at : k.at ≡ found.place.0 - 8 = omega arith in
-    record {
+    let at : k.at ≡ found.place.0 - 8 = omega arith in record {
       live = live;
       chunk = k.chunk;
       finds = subst (λ (n : ℕ). Finds image found.name.0 live k.chunk n) at k.finds;
@@ -42,7 +41,8 @@ one_placed image found h f =
 -- where another name alone changes it is found as before
 pub found_kept : {old new : List ℕ} {name : ℕ} {now : Option LiveChunk} {there : Option ℕ} (found : Found) → HeapAccepted old → ChangesName old new name now there → found.name.0 ≢ name → IsOne old found → IsOne new found
 found_kept found h ch apart f =
-    found_held _ _ _ ch.frame.accepted (ch.others found.name.0 apart ∙ one_held _ _ h f) (ch.places found.name.0 apart ∙ one_placed _ _ h f) f.count f.lock_is f.owner_is
+    found_held _ _ _ ch.frame.accepted (ch.others found.name.0 apart ∙ one_held _ _ h f)
+    (ch.places found.name.0 apart ∙ one_placed _ _ h f) f.count f.lock_is f.owner_is
 
 -- ---- the stand-in
 
@@ -142,7 +142,8 @@ header_table {old} {mid} there owner {slot} h one s mid_is =
     let none = named_hold_none _ f.before one.chunk [] f.after there.name.0 one.live heap (rw f.there at f.named) tt in
     let least = (Spelled-size old at one.chunk (finds_spelled _ _ _ _ _ h f)).0 in
     let w = wrote_words old _ at there.length 0 owner (h_offset_to at slot) inside mid_is in
-    table_kept _ mid f.before (one.chunk ∷ []) f.after _ _ heap.tiles none f.there (wrote_wider _ _ _ _ at (at + total (one.chunk ∷ [])) w (omega arith) (omega arith)) s
+    table_kept _ mid f.before (one.chunk ∷ []) f.after _ _ heap.tiles none f.there
+    (wrote_wider _ _ _ _ at (at + total (one.chunk ∷ [])) w (omega arith) (omega arith)) s
 
 -- ---- bytes are copied
 
@@ -187,8 +188,7 @@ copied_there {old} {new} from to h f one is new_is =
     let start : to.place.0 ≡ to.place.0 + 0 = omega arith in
     let whole = new_is ∙ ap (overwritten old to.place.0) first ∙ ap (λ k. overwritten old k part) start in
     let there = written_there _ _ to 0 part h one (omega (arith, few)) whole in
-    let ch = copy_changes new to part h one few there.0 in
-    record {
+    let ch = copy_changes new to part h one few there.0 in record {
       made = there.0;
       plain = there.1;
       keeps = keeps_body _ _ to 0 part h one (omega (arith, few)) whole;
@@ -199,7 +199,8 @@ copied_there {old} {new} from to h f one is new_is =
 -- ---- all steps
 
 -- zeros with the first bytes written over them
-padded : (count : ℕ) (bytes : List ℕ) → overwritten (replicate count 0) 0 (take count bytes) ≡ sized_to bytes count
+padded : (count : ℕ) (bytes : List ℕ)
+    → overwritten (replicate count 0) 0 (take count bytes) ≡ sized_to bytes count
 unfolding overwritten
 padded count bytes =
     let many = length-take count bytes in
@@ -245,7 +246,8 @@ relocated_found {s0} s1 s2 s3 s4 found {there} {at} {size} count h f unlocked r 
       let d_takes : size_of d ≡ need count = ap need sized in
       let f_takes : size_of (fixed zeros 1) ≡ need count = ap need many in
       let e_takes = ap (λ x. need (length x)) padded_are ∙ d_takes in
-      relocates _ _ s2 s3 s4 _ _ _ _ _ lock _ slot _ _ _ _ _ _ h g.chunks g.there (omega arith) (omega arith) tt tt (f_takes ∙ sym d_takes) (e_takes ∙ sym d_takes) refl
+      relocates _ _ s2 s3 s4 _ _ _ _ _ lock _ slot _ _ _ _ _ _ h g.chunks g.there (omega arith)
+      (omega arith) tt tt (f_takes ∙ sym d_takes) (e_takes ∙ sym d_takes) refl
       (ap (λ x. movable x 0 found.owner found.name.0) padded_are ∙ ap (λ n. movable (sized_to bytes count) n found.owner found.name.0) lock_zero ∙ ap (λ n. movable (sized_to bytes count) lock n found.name.0) owner_same ∙ ap (λ n. movable (sized_to bytes count) lock owner n) (sym g.named.0))
       made (rw place at (rw taken at (copied again))) gone (rw place at named)
 
@@ -254,14 +256,16 @@ pub slot_emptied : {old : List ℕ} (new : List ℕ) (found : Found) → HeapAcc
 slot_emptied {old} new found h f unlocked x =
     let ch = freed_changes _ new _ _ _ _ h f.finds x in
     let was : IsSlot old found.name.0 =
-    when_movable _ _ _ f (λ c g. IsSlot old found.name.0) (λ e. omega arith) (λ bytes lock owner slot g. rw g.named.0 at (own_slot _ _ _ _ _ _ _ _ h g)) in
+    when_movable _ _ _ f (λ c g. IsSlot old found.name.0) (λ e. omega arith)
+    (λ bytes lock owner slot g. rw g.named.0 at (own_slot _ _ _ _ _ _ _ _ h g)) in
     let s : IsSlot new found.name.0 = slot_kept _ _ _ _ x was in
     (s, (slot_unheld _ _ x.frame.accepted s).1 ch.here)
 
 pub freed_keeps : {old : List ℕ} (new : List ℕ) (found other : Found) → HeapAccepted old → (f : IsOne old found) → Alters old new (found.place.0 - 8) freed → other.name.0 ≢ found.name.0 → IsOne old other → IsOne new other
 freed_keeps new found other h f x apart g = found_kept _ h (freed_changes _ new _ _ _ _ h f.finds x) apart g
 
-pub owner_fits : {image : List ℕ} (found : Found) → HeapAccepted image → IsOne image found → found.owner ≤ data_owner
+pub owner_fits : {image : List ℕ} (found : Found) → HeapAccepted image → IsOne image found
+    → found.owner ≤ data_owner
 owner_fits {image} found h f = by_chunk f.live f.chunk f.finds f.owner_is where
   by_chunk : (live : LiveChunk) (c : Chunk) (g : Finds image found.name.0 live c (found.place.0 - 8)) → found.owner ≡ live.owner → found.owner ≤ data_owner
   by_chunk live (free n) g is = absurd g.named

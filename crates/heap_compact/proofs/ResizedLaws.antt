@@ -3,7 +3,8 @@ use Rattle.heap_compact.proofs.Words.{◌≡◌, ℕ, ◌+◌, ◌-◌, ◌<◌,
 use Rattle.laws_heap.proofs.ChangedName.{held_updated}
 
 -- what was found is the chunk of its own name
-pub one_of : {image : List ℕ} {name : ℕ} {found : Found} → IsFound image name found → IsOne image found
+pub one_of : {image : List ℕ} {name : ℕ} {found : Found} → IsFound image name found
+    → IsOne image found
 one_of {image} {found} f = subst (λ (n : ℕ). IsFound image n found) (sym f.name_is) f
 
 same_live : {x y : LiveChunk} → Some x ≡ Some y → x ≡ y
@@ -83,8 +84,7 @@ loose_slid {name} h s l = record { live = l.live; is_held = (slides_alike _ _ h 
 pub slid_then : {old mid : List ℕ} (new : List ℕ) (name count : ℕ) → HeapAccepted old
     → SlidesOneStretch old mid → Resized mid new name count → Resized old new name count
 slid_then {old} {mid} new name count h s r =
-    let alike = slides_alike _ _ h s in
-    record {
+    let alike = slides_alike _ _ h s in record {
       frame = frame_then _ _ _ s.becomes.frame r.frame;
       map = λ other. r.map other
           ∙ ap (λ x. if other == name then changed (λ y. record y { bytes = sized_to y.bytes count }) x else held mid other) (alike.holds name)
@@ -98,8 +98,7 @@ slid_then {old} {mid} new name count h s r =
 pub slid_alone : {old mid : List ℕ} (new : List ℕ) (name : ℕ) → HeapAccepted old
     → SlidesOneStretch old mid → MovesAlone mid new name → MovesOneStretchAnd old new name
 slid_alone {mid} new name h s alone =
-    let alike = slides_alike _ _ h s in let one = slides_move_one _ _ s in
-    record {
+    let alike = slides_alike _ _ h s in let one = slides_move_one _ _ s in record {
       before = one.before;
       mid = one.mid;
       after = one.after;
@@ -160,7 +159,8 @@ resized_named new count f done fits = resized_here new count f (done (one_of f) 
 
 -- ---- what is taken and free fits into a region
 
-pub own_fits : {image : List ℕ} (found : Found) → HeapAccepted image → IsOne image found → need found.length ≤ 16777208
+pub own_fits : {image : List ℕ} (found : Found) → HeapAccepted image → IsOne image found
+    → need found.length ≤ 16777208
 own_fits found h f = let inside = found_inside _ found h f in omega (arith, h.1.tiles.head.most)
 
 pub room_fits : {image : List ℕ} (found : Found) {stretch : Stretch} {room : ℕ} → HeapAccepted image

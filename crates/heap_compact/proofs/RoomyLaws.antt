@@ -20,7 +20,8 @@ short_behind size closed run after runs ends none begins empty short low =
     let all : rooms_of (stretches (closed ++ (run ++ after))) ≡ rooms_of (stretches closed) ++ rooms_of (filter has_chunk (run ∷ [])) =
     ap rooms_of (stretches_behind closed (run ++ after) ends) ∙ rooms_of-append (stretches closed) (stretches (run ++ after)) ∙ ap (λ (others : List (List Chunk)). rooms_of (stretches closed) ++ rooms_of others) one in
     subst (λ rooms. All (λ room. room < size) rooms) (sym all) (All-append (λ room. room < size) (rooms_of (stretches closed)) (rooms_of (filter has_chunk (run ∷ []))) short (short_run size run low)) where
-      with_none : (first : List Chunk) → filter has_chunk (first ∷ runs) ≡ filter has_chunk (first ∷ [])
+      with_none : (first : List Chunk)
+          → filter has_chunk (first ∷ runs) ≡ filter has_chunk (first ∷ [])
       with_none [] = empty
       with_none (c ∷ first) = ap (λ (others : List (List Chunk)). (c ∷ first) ∷ others) empty
 
@@ -35,8 +36,7 @@ stay_alone (fixed bytes owner) s = refl
 pub rooms_start : {image : List ℕ} (size : ℕ) {start : ℕ} → HeapAccepted image
     → start ≡ area_start image → SeenRooms image size start start 0
 rooms_start size h e =
-    let fits = h.1.tiles.head.a_chunk_fits in
-    record {
+    let fits = h.1.tiles.head.a_chunk_fits in record {
       seen = record { closed = []; run = []; spelled = sym e; none_stays = tt; ends = tt; from = omega (arith, e); low = omega arith; inside = omega (arith, fits, e) };
       room_is = refl;
       short = All-nil (λ other. other < size);
@@ -77,7 +77,8 @@ module _ {image : List ℕ} {size start here room : ℕ} (r : SeenRooms image si
 
     -- ---- a stretch is found
 
-    roomy : size ≤ room → BeginsStaying others.0 → HasRoom image size (record { start = start; end = here })
+    roomy : size ≤ room → BeginsStaying others.0
+        → HasRoom image size (record { start = start; end = here })
     roomy enough begins = record {
       before = closed;
       mid = run;
@@ -95,7 +96,8 @@ module _ {image : List ℕ} {size start here room : ℕ} (r : SeenRooms image si
     room_found f stay enough =
         roomy enough (begins_there image here f.chunk others.0 others.2 f.spelled (header_stay f.chunk (subst HeaderStays f.header_is stay)))
 
-    pub room_last : length image ≤ here → size ≤ room → HasRoom image size (record { start = start; end = here })
+    pub room_last : length image ≤ here → size ≤ room
+        → HasRoom image size (record { start = start; end = here })
     room_last past enough = roomy enough (none_there image here others.0 others.2 past)
 
     -- or none is

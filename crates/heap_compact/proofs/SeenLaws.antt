@@ -68,12 +68,12 @@ seen_size {image} {here} f e =
 unfoldable pub seen_more : (image : List ℕ) (at start here size : ℕ) (header : Header) → SeenUpTo image at start here → HasHeader image here header → size ≡ size_by header → (HeaderStays header → ⊥) → SeenUpTo image at start (here + size)
 seen_more image at start here size header s f e goes =
     let same : size ≡ size_of f.chunk = e ∙ ap size_by f.header_is ∙ size_by-header_of f.chunk in
-    let next : here + size ≡ here + size_of f.chunk = ap (λ (n : ℕ). here + n) same in
-    record {
+    let next : here + size ≡ here + size_of f.chunk = ap (λ (n : ℕ). here + n) same in record {
       closed = s.closed;
       run = s.run ++ f.chunk ∷ [];
       spelled = rw (append_assoc s.closed s.run (f.chunk ∷ [])) at (SpelledAll-push image (area_start image) (s.closed ++ s.run) here f.chunk _ s.spelled f.spelled next);
-      none_stays = (none_stays-append s.run (f.chunk ∷ [])).1 (s.none_stays, header_goes f.chunk (λ k. goes (subst HeaderStays (sym f.header_is) k)));
+      none_stays = (none_stays-append s.run (f.chunk ∷ [])).1
+          (s.none_stays, header_goes f.chunk (λ k. goes (subst HeaderStays (sym f.header_is) k)));
       ends = s.ends;
       from = s.from;
       low = s.low;
@@ -149,8 +149,7 @@ module _ {image : List ℕ} {at name count start here : ℕ} (h : HeapAccepted i
       let parts = SpelledAll-split image (area_start image) closed run here s.spelled in
       let front = SpelledAll-rest image _ _ _ begin at parts.0 t.0 (omega (arith, s.from, s.low)) in
       let rest = SpelledAll-rest image begin front.0 run at here front.2 parts.1 (omega (arith, low)) in
-      let back = found_back image at here v front.0 rest.0 rest.1 rest.2 t.1 low in
-      record {
+      let back = found_back image at here v front.0 rest.0 rest.1 rest.2 t.1 low in record {
         before = closed;
         front = front.0;
         bytes = u.bytes;
@@ -174,7 +173,8 @@ module _ {image : List ℕ} {at name count start here : ℕ} (h : HeapAccepted i
   seen_found f stay low =
       around _ low others.1 (begins_there _ here _ _ others.2 f.spelled (header_stay _ (subst HeaderStays f.header_is stay)))
 
-  pub seen_all : length image ≤ here → IsAmongAt image at name count (record { start = start; end = here })
+  pub seen_all : length image ≤ here
+      → IsAmongAt image at name count (record { start = start; end = here })
   seen_all past =
       let size = Spelled-size image at v (unlocked_there h u).1 in
       around _ (omega (arith, size.0, size.1, past)) others.1 (none_there _ here _ others.2 past)

@@ -22,16 +22,17 @@ pub record SpaceWritten (old : List ℕ) (new : Memory) (heads : List ℕ) (know
 
 module _ {old region : Memory} {heads : List ℕ} {known : Remembered} {found : Found} (view : region ≡ old) (s : IsSpace region heads known) (f : IsOne old.bytes found) where
   -- what is written may depend on the bytes that were there
-  pub body_written : {new : List ℕ} (at place : ℕ) (part : List ℕ → List ℕ) → place ≡ found.place.0 + at
-      → at + length (part old.bytes) ≤ found.length → new ≡ overwritten region.bytes place (part region.bytes)
+  pub body_written : {new : List ℕ} (at place : ℕ) (part : List ℕ → List ℕ)
+      → place ≡ found.place.0 + at
+      → at + length (part old.bytes) ≤ found.length
+      → new ≡ overwritten region.bytes place (part region.bytes)
       → BodyWritten old.bytes new heads known found at (part old.bytes)
   body_written at place part e fits is =
       let heap = viewed_heap view s.heap in
       let whole = is ∙ ap (λ (n : ℕ). overwritten region.bytes n (part region.bytes)) e in
       let mine = whole ∙ ap (λ (m : Memory). overwritten region.bytes (found.place.0 + at) (part m.bytes)) view in
       let shown = whole ∙ ap (λ (m : Memory). overwritten m.bytes (found.place.0 + at) (part m.bytes)) view in
-      let there = written_there _ _ found at (part old.bytes) heap.accepted f fits shown in
-      record {
+      let there = written_there _ _ found at (part old.bytes) heap.accepted f fits shown in record {
         fits = fits;
         made = there.0;
         plain = there.1;

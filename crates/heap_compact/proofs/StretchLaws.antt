@@ -67,8 +67,7 @@ packed_end {new} {before} {mid} {after} {room} s b is =
     let parts : chunks_of new ≡ front ++ (gap room ++ after) =
     b.exact ∙ ap (λ cs. before ++ (cs ++ after)) (stretch_packed mid s.whole.none_stays ∙ ap (λ n. lives mid ++ gap n) (sym is)) ∙ ap (λ cs. before ++ cs) (append_assoc (lives mid) (gap room) after)
     ∙ sym (append_assoc before (lives mid) (gap room ++ after)) in
-    let both = total-append before (lives mid) in
-    record {
+    let both = total-append before (lives mid) in record {
       before = front;
       run = gap room;
       after = after;
@@ -195,8 +194,7 @@ module _ {old mid : List ℕ} {at name count : ℕ} {stretch : Stretch} {room : 
       → HasFreeBehind mid start (stretch.end - room) room
   room_behind start some start_is =
       let many = ap need a.many in let one = total-append a.before (fore ++ v ∷ []) in
-      let two = total-append fore (v ∷ []) in
-      record {
+      let two = total-append fore (v ∷ []) in record {
         before = a.before ++ (fore ++ v ∷ []);
         mid = rear;
         after = a.after;
@@ -239,5 +237,6 @@ module _ {old mid : List ℕ} {at name count : ℕ} {stretch : Stretch} {room : 
   opened_none none =
       let g : [] ≡ gap (room_of (a.front ++ a.back)) = sym (gap_none (sym room_is ∙ none)) in
       let e : packed (a.front ++ v ∷ a.back) ≡ opened a.front v a.back =
-      packed_is ∙ ap (λ (cs : List Chunk). (fore ++ v ∷ rear) ++ cs) (gap_none none) ∙ append-nil (fore ++ v ∷ rear) ∙ ap (λ (cs : List Chunk). fore ++ v ∷ (cs ++ rear)) g in
+      packed_is ∙ ap (λ (cs : List Chunk). (fore ++ v ∷ rear) ++ cs) (gap_none none)
+      ∙ append-nil (fore ++ v ∷ rear) ∙ ap (λ (cs : List Chunk). fore ++ v ∷ (cs ++ rear)) g in
       whole_opened mid (rw e at packed_image)

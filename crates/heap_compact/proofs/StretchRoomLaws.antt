@@ -50,17 +50,18 @@ module _ {image : List ℕ} {stretch : Stretch} {at room : ℕ} (h : HeapAccepte
   pub summed_more : {size more : ℕ} {header : Header} → HasHeader image at header → size ≡ size_by header → more ≡ free_by header → SumsUpTo image stretch (at + size) (room + more)
   summed_more {size} {more} {header} found size_is more_is before mid after s =
       let n = next_at s in
-      let same : header ≡ header_of n.chunk = found.header_is ∙ ap header_of (Spelled-unique image at found.chunk n.chunk found.spelled n.spelled) in
+      let same : header ≡ header_of n.chunk = found.header_is
+      ∙ ap header_of (Spelled-unique image at found.chunk n.chunk found.spelled n.spelled) in
       let taken : size ≡ size_of n.chunk = size_is ∙ ap size_by same ∙ size_by-header_of n.chunk in
       let gained : more ≡ free_size n.chunk = more_is ∙ ap free_by same ∙ free_of n.chunk in
       let there = n.summed.there in let sums = n.summed.sums in
       let all = total-append n.summed.front (n.chunk ∷ []) in
       let rooms = sum_by-append free_size n.summed.front (n.chunk ∷ []) in
-      let one = sum_by-cons free_size n.chunk [] in let none : room_of [] ≡ 0 = refl in
-      record {
+      let one = sum_by-cons free_size n.chunk [] in let none : room_of [] ≡ 0 = refl in record {
         front = n.summed.front ++ n.chunk ∷ [];
         rest = n.later;
-        parts = n.summed.parts ∙ ap (λ (cs : List Chunk). n.summed.front ++ cs) n.rest_is ∙ sym (append_assoc n.summed.front (n.chunk ∷ []) n.later);
+        parts = n.summed.parts ∙ ap (λ (cs : List Chunk). n.summed.front ++ cs) n.rest_is
+            ∙ sym (append_assoc n.summed.front (n.chunk ∷ []) n.later);
         there = omega arith;
         sums = omega arith;
       }

@@ -1,7 +1,5 @@
 -- The chunk grows in its own stretch, moves to another that was packed, or no stretch has the room.
-use Rattle.heap_compact.proofs.Words.{◌≡◌, ℕ, sym, subst, arith, Short, MovesOneStretchAnd, need, short_for_beyond, room_spot, spot_is_run}
-use Rattle.laws_heap.proofs.Unmoved.{itself_alone}
-use Rattle.heap_compact.proofs.ResizedLaws.{is_loose, loose_slid, slid_then, slid_alone, fits_in_stretch, fits_not_short, short_own, own_fits, room_fits}
+use Rattle.heap_compact.proofs.Laws.{◌≡◌, ℕ, sym, subst, arith, Short, MovesOneStretchAnd, need, short_for_beyond, room_spot, spot_is_run, itself_alone, is_loose, loose_slid, slid_then, slid_alone, fits_in_stretch, fits_not_short, short_own, own_fits, room_fits}
 use Rattle.heap_compact.proofs.growing.resize_by_packing.Goals as goal
 
 pub returns-in-None-clause-short : goal.returns-in-None-clause-short
@@ -28,7 +26,8 @@ returns-then-size_of_body-room_of-clause-not_short c =
 
 pub relocate_named-requires-clause-loose : goal.relocate_named-requires-clause-loose
 relocate_named-requires-clause-loose c =
-    loose_slid c.holds.ensures.accepted c.in-Some-room_by_packing.ensures.slides (is_loose _ c.holds.ensures.accepted c.requires.found c.requires.unlocked)
+    loose_slid c.holds.ensures.accepted c.in-Some-room_by_packing.ensures.slides
+    (is_loose _ c.holds.ensures.accepted c.requires.found c.requires.unlocked)
 
 pub returns-in-Some-room_by_packing-clause-resized : goal.returns-in-Some-room_by_packing-clause-resized
 returns-in-Some-room_by_packing-clause-resized c =
@@ -55,7 +54,8 @@ returns-in-Some-room_by_packing-clause-one_stretch c =
 
 pub returns-in-None-room_by_packing-clause-one_stretch : goal.returns-in-None-room_by_packing-clause-one_stretch
 returns-in-None-room_by_packing-clause-one_stretch c =
-    subst (λ m. MovesOneStretchAnd c.args.space.now.bytes m.bytes c.args.found.name.0) (sym c.in-None-room_by_packing.ensures.refused) (itself_alone _ _)
+    subst (λ m. MovesOneStretchAnd c.args.space.now.bytes m.bytes c.args.found.name.0)
+    (sym c.in-None-room_by_packing.ensures.refused) (itself_alone _ _)
 
 pub relocate_named-requires-clause-has_run : goal.relocate_named-requires-clause-has_run
 relocate_named-requires-clause-has_run c =

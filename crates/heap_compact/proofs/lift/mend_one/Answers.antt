@@ -1,7 +1,6 @@
 -- A movable chunk names its slot again, and the slot gets its new place; any other chunk stays as it is.
-use Rattle.heap_compact.proofs.Words.{arith, same_bytes, same_lents}
+use Rattle.heap_compact.proofs.Laws.{arith, same_bytes, same_lents, slot_again_within}
 use Rattle.heap_compact.proofs.MendLaws.{next_of, mends, stepped_kept}
-use Rattle.heap_compact.proofs.LentLifts.{slot_again_within}
 use Rattle.heap_compact.proofs.lift.mend_one.Goals as goal
 
 pub at_with_size-header-requires-clause-chunk : goal.at_with_size-header-requires-clause-chunk

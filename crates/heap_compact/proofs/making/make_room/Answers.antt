@@ -1,6 +1,5 @@
 -- Room is found, or made by packing one stretch, or no stretch has it.
-use Rattle.heap_compact.proofs.Words.{spot_not_short}
-use Rattle.heap_compact.proofs.MadeRoomLaws.{slides_nothing, moves_none}
+use Rattle.heap_compact.proofs.Laws.{spot_not_short, slides_nothing, moves_none}
 use Rattle.heap_compact.proofs.making.make_room.Goals as goal
 
 pub returns-in-Some-clause-not_short : goal.returns-in-Some-clause-not_short

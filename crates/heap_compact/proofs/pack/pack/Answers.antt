@@ -1,8 +1,5 @@
 -- Each step packs one more chunk of the run, and the last room goes into its list.
-use Rattle.heap_compact.proofs.Words.{◌-◌, ◌∙◌, arith, refl, Before, new_lists, lists_any, same_lents}
-use Rattle.heap_compact.proofs.ExactLaws.{exactly_linked}
-use Rattle.heap_compact.proofs.PackLaws.{packing_start, packing_more, packing_next, packing_on, packing_done, room_packed}
-use Rattle.heap_compact.proofs.MemoryLaws.{same_slid}
+use Rattle.heap_compact.proofs.Laws.{◌-◌, ◌∙◌, arith, refl, Before, new_lists, lists_any, same_lents, exactly_linked, packing_start, packing_more, packing_next, packing_on, packing_done, room_packed, same_slid}
 use Rattle.heap_compact.proofs.pack.pack.Goals as goal
 
 pub loop-at-init : goal.loop-at-init
@@ -44,8 +41,7 @@ push_room-requires c =
 pub returns : goal.returns
 returns c =
     let i = c.loop-at.invariant in let all = packing_done i.0 (omega arith) in
-    let p = c.push_room.ensures in
-    record {
+    let p = c.push_room.ensures in record {
       lists = lists_any _ _ _ p.lists;
       packed = λ run. exactly_linked (all run).becomes p.same;
       moved = λ run. (all run).moved_is;

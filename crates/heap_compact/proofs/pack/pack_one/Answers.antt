@@ -1,10 +1,6 @@
 -- A chunk is joined with the room before it, stays after it, or goes down over it.
-use Rattle.heap_compact.proofs.Words.{inl, inr, ap, ◌∙◌, arith, sym, size_by, lists_weaker, same_bytes, same_lents}
-use Rattle.heap_compact.proofs.PackLaws.{behind_spelled, join_writable, packed_free, free_keeps, room_in_front, slot_there, droppable, packed_movable, packed_kept, kept_linked, behind_misses, join_misses}
-use Rattle.heap_place.proofs.GatherLaws.{kept_lists}
-use Rattle.heap_compact.proofs.LentRuns.{packed_holds}
+use Rattle.heap_compact.proofs.Laws.{inl, inr, ap, ◌∙◌, arith, sym, size_by, lists_weaker, same_bytes, same_lents, behind_spelled, join_writable, packed_free, free_keeps, room_in_front, slot_there, droppable, packed_movable, packed_kept, kept_linked, behind_misses, join_misses, kept_lists, packed_holds}
 use Rattle.heap_compact.proofs.pack.pack_one.Goals as goal
-use Rattle.heap_compact.proofs.pack.pack_one.Goals.{then-stays-via-then-stays, then-stays-via-else-stays+then-room-eq0}
 
 pub at_with_size-header-requires : goal.at_with_size-header-requires
 at_with_size-header-requires c =
@@ -51,8 +47,8 @@ returns-then-stays-clause-packed c = λ b.
     kept_linked
     (packed_kept c.requires.heap.accepted b c.at_with_size-header.ensures.header c.in_default.not-Free c.at_with_size-header.ensures.size
     (elim c.then-stays.branch [
-      | then-stays-via-then-stays w ↦ inl (c.stays.ensures.0 w.if-stays.true)
-      | then-stays-via-else-stays+then-room-eq0 w ↦ inr (λ stay. let is = c.stays.ensures.1 stay in let isnt = w.if-stays.false in cc, omega arith)
+      | goal.then-stays-via-then-stays w ↦ inl (c.stays.ensures.0 w.if-stays.true)
+      | goal.then-stays-via-else-stays+then-room-eq0 w ↦ inr (λ stay. let is = c.stays.ensures.1 stay in let isnt = w.if-stays.false in cc, omega arith)
     ])) c.push_room.ensures.same
 
 pub returns-then-stays-clause-lists : goal.returns-then-stays-clause-lists
@@ -67,12 +63,14 @@ unwrap-slot-requires c =
 
 pub drop_one-requires-clause-drops : goal.drop_one-requires-clause-drops
 drop_one-requires-clause-drops c =
-    droppable c.requires.heap.accepted c.requires.behind c.at_with_size-header.ensures.header (λ stay. let is = c.stays.ensures.1 stay in let isnt = c.if-stays.false in cc)
+    droppable c.requires.heap.accepted c.requires.behind c.at_with_size-header.ensures.header
+    (λ stay. let is = c.stays.ensures.1 stay in let isnt = c.if-stays.false in cc)
     (sym c.slot_of.ensures ∙ c.unwrap-slot.ensures) c.at_with_size-header.ensures.size (omega arith)
 
 pub returns-clause-packed : goal.returns-clause-packed
 returns-clause-packed c = λ b.
-    packed_movable c.requires.heap.accepted b c.at_with_size-header.ensures.header (λ stay. let is = c.stays.ensures.1 stay in let isnt = c.if-stays.false in cc)
+    packed_movable c.requires.heap.accepted b c.at_with_size-header.ensures.header
+    (λ stay. let is = c.stays.ensures.1 stay in let isnt = c.if-stays.false in cc)
     (sym c.slot_of.ensures ∙ c.unwrap-slot.ensures) c.at_with_size-header.ensures.size (omega arith) c.drop_one.ensures.dropped
 
 pub returns-clause-lists : goal.returns-clause-lists

@@ -1,9 +1,5 @@
 -- The directory is no directory while it moves, and is named again then.
-use Rattle.heap_compact.proofs.Words.{◌∙◌, inl, inr, refl, plain_then, lists_kept, same_lents, ap, ◌+◌, IsOne}
-use Rattle.std.specs.Prelude.{min}
-use Rattle.heap_compact.proofs.MemoryLaws.{same_slid}
-use Rattle.laws_heap.proofs.Directory.{named_spot, relocated_again}
-use Rattle.heap_compact.proofs.FoundAgain.{named_one, some_name, moved_owner}
+use Rattle.heap_compact.proofs.Laws.{◌∙◌, inl, inr, refl, plain_then, lists_kept, same_lents, ap, ◌+◌, IsOne, min, same_slid, named_spot, relocated_again, named_one, some_name, moved_owner}
 use Rattle.heap_compact.proofs.relocate.relocate_directory.Goals as goal
 
 pub name_directory-requires-clause-managers : goal.name_directory-requires-clause-managers
@@ -11,8 +7,7 @@ name_directory-requires-clause-managers c = inl refl
 
 pub relocate_other-requires : goal.relocate_other-requires
 relocate_other-requires c =
-    let n = c.name_directory.ensures in
-    record {
+    let n = c.name_directory.ensures in record {
       heap = n.heap;
       found = named_one c.args.found n.names c.requires.found;
       unlocked = c.requires.unlocked;

@@ -1,6 +1,5 @@
 -- A fixed chunk is made where the room is, and every chunk that was found stays.
-use Rattle.heap_compact.proofs.Words.{ℕ, ap, subst, arith, rules, length-replicate, need, IsFreeChunk, room_facts, lists_kept, lists_any, cut_chunk, cut_claims}
-use Rattle.heap_compact.proofs.RelocateLaws.{stands_there, stand_keeps}
+use Rattle.heap_compact.proofs.Laws.{ℕ, ap, subst, arith, rules, length-replicate, need, IsFreeChunk, room_facts, lists_kept, lists_any, cut_chunk, cut_claims, stands_there, stand_keeps}
 use Rattle.heap_compact.proofs.relocate.stand_in_at.Goals as goal
 
 pub size_of_body-requires : goal.size_of_body-requires

@@ -1,8 +1,5 @@
 -- Zeros, the header of the rest and the chunk's own header are written.
-use Rattle.heap_compact.proofs.Words.{ap, sym, arith, rules, ◌∙◌, RunBehind, size_by, rest_length, run_facts, sized_writable, WasResized, resized_by, part_within, found_size, same_bytes, same_lents}
-use Rattle.heap_place.proofs.RegrownLaws.{resized_keeps, resized_rest}
-use Rattle.heap_compact.proofs.LentRuns.{regrown_within, resized_holds, resized_total, length_size}
-use Rattle.heap_compact.proofs.MemoryLaws.{within_misses}
+use Rattle.heap_compact.proofs.Laws.{ap, sym, arith, rules, ◌∙◌, RunBehind, size_by, rest_length, run_facts, sized_writable, WasResized, resized_by, part_within, found_size, same_bytes, same_lents, resized_keeps, resized_rest, regrown_within, resized_holds, resized_total, length_size, within_misses}
 use Rattle.heap_compact.proofs.resize.resize_at.Goals.{After-write}
 use Rattle.heap_compact.proofs.resize.resize_at.Goals as goal
 
@@ -42,8 +39,7 @@ overflow_add-at c =
 
 pub write_rest-requires : goal.write_rest-requires
 write_rest-requires c =
-    let f = run_facts _ _ _ c.requires.heap.accepted c.requires.behind in
-    record {
+    let f = run_facts _ _ _ c.requires.heap.accepted c.requires.behind in record {
       inside = omega (arith, f.inside, c.requires.fits, c.size_of_body.ensures, c.size_of_body-size.ensures, c.fill.ensures.len);
       whole = omega (arith, f.whole, c.requires.fits, c.size_of_body.ensures, c.size_of_body-size.ensures);
       small = omega (arith, f.most, c.fill.ensures.len);
@@ -59,8 +55,7 @@ write-requires c =
     let len = rest_length _ _ _ _ c.write_rest.ensures.wrote (omega arith) (omega arith) in
     let is = ap size_by c.header_with.ensures in
     let w = sized_writable _ _ c.args.count _ c.requires.heap.accepted c.requires.behind c.requires.fits in
-    let takes = w.1 in
-    record {
+    let takes = w.1 in record {
       inside = omega arith;
       misses = within_misses _ _ (regrown_within c.requires.heap c.requires.behind c.requires.other)
           (same_lents c.write_rest.ensures.rest ∙ same_lents c.fill.ensures.after) (omega arith) (omega arith);

@@ -1,8 +1,5 @@
 -- The room is taken from its lists, and a movable chunk is put there.
-use Rattle.heap_compact.proofs.Words.{replicate, ap, sym, subst, ◌∙◌, arith, length-replicate, Memory, u32_at, movable, need, IsSlot, Claims, slot_kept, room_facts, lists_kept, lists_any, taken_chunk}
-use Rattle.laws_heap.proofs.SameLayouts.{same_slots}
-use Rattle.heap_compact.proofs.KeptLaws.{viewed_heap, viewed_space}
-use Rattle.heap_compact.proofs.SpaceWrites.{room_claimed}
+use Rattle.heap_compact.proofs.Laws.{replicate, ap, sym, subst, ◌∙◌, arith, length-replicate, Memory, u32_at, movable, need, IsSlot, Claims, slot_kept, room_facts, lists_kept, lists_any, taken_chunk, same_slots, viewed_heap, viewed_space, room_claimed}
 use Rattle.heap_compact.proofs.space.Space.claim.Goals.{After-build_unless_packed}
 use Rattle.heap_compact.proofs.space.Space.claim.Goals as goal
 

@@ -1,7 +1,5 @@
 -- The room is taken from its lists, and a fixed chunk is put there.
-use Rattle.heap_compact.proofs.Words.{replicate, ap, arith, length-replicate, fixed, need, Claims, room_facts, lists_kept, lists_any, taken_chunk}
-use Rattle.heap_compact.proofs.KeptLaws.{viewed_heap, viewed_space}
-use Rattle.heap_compact.proofs.SpaceWrites.{room_claimed}
+use Rattle.heap_compact.proofs.Laws.{replicate, ap, arith, length-replicate, fixed, need, Claims, room_facts, lists_kept, lists_any, taken_chunk, viewed_heap, viewed_space, room_claimed}
 use Rattle.heap_compact.proofs.space.Space.claim_fixed.Goals.{After-build_unless_packed}
 use Rattle.heap_compact.proofs.space.Space.claim_fixed.Goals as goal
 

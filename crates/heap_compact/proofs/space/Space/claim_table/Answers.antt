@@ -1,7 +1,5 @@
 -- The room is taken from its lists, and a table is put there and remembered.
-use Rattle.heap_compact.proofs.Words.{◌+◌, ap, subst, ◌∙◌, arith, is_chained, PutsTable, room_facts, lists_kept, lists_any, taken_chunk}
-use Rattle.laws_heap.proofs.MoreTables.{puts_after, puts_before}
-use Rattle.heap_compact.proofs.KeptLaws.{tables_kept, tables_gained, viewed_heap}
+use Rattle.heap_compact.proofs.Laws.{◌+◌, ap, subst, ◌∙◌, arith, is_chained, PutsTable, room_facts, lists_kept, lists_any, taken_chunk, puts_after, puts_before, tables_kept, tables_gained, viewed_heap}
 use Rattle.heap_compact.proofs.space.Space.claim_table.Goals.{After-build_unless_packed}
 use Rattle.heap_compact.proofs.space.Space.claim_table.Goals as goal
 

@@ -1,6 +1,5 @@
 -- The bytes are written over those of a body that isn't lent.
-use Rattle.heap_compact.proofs.Words.{replicate, rules, arith, length-replicate, same_bytes, same_lents}
-use Rattle.heap_compact.proofs.SpaceWrites.{SpaceWritten, space_written, body_within}
+use Rattle.heap_compact.proofs.Laws.{replicate, rules, arith, length-replicate, same_bytes, same_lents, SpaceWritten, space_written, body_within}
 use Rattle.heap_compact.proofs.space.Space.fill.Goals.{After-fill}
 use Rattle.heap_compact.proofs.space.Space.fill.Goals as goal
 

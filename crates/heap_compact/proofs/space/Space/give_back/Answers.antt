@@ -1,7 +1,5 @@
 -- The lists are built, and the chunk that became free is in its own.
-use Rattle.heap_compact.proofs.Words.{◌-◌, sym, subst, ◌∙◌, ap, Memory, directory_of, Alters, freed, WritesPlain, IsOne, plain_then}
-use Rattle.heap_compact.proofs.FoundAgain.{same_found, then_freed}
-use Rattle.heap_compact.proofs.KeptLaws.{viewed_space}
+use Rattle.heap_compact.proofs.Laws.{◌-◌, sym, subst, ◌∙◌, ap, Memory, directory_of, Alters, freed, WritesPlain, IsOne, plain_then, same_found, then_freed, viewed_space}
 use Rattle.heap_compact.proofs.space.Space.give_back.Goals.{After-release_listed}
 use Rattle.heap_compact.proofs.space.Space.give_back.Goals as goal
 
@@ -29,4 +27,5 @@ returns-clause-plain c =
 
 pub invariant_of-self : goal.invariant_of-self
 invariant_of-self c =
-    viewed_space c.self.view_is c.release_listed.ensures.heap c.release_listed.ensures.lists (gone (goal.at.invariant_of-self c).After-release_listed).frame c.self.invariant.tables
+    viewed_space c.self.view_is c.release_listed.ensures.heap c.release_listed.ensures.lists
+    (gone (goal.at.invariant_of-self c).After-release_listed).frame c.self.invariant.tables

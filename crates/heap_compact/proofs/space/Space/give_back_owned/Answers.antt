@@ -1,7 +1,5 @@
 -- The owner's chunks become free, and all lists are built.
-use Rattle.heap_compact.proofs.Words.{subst, Memory, Becomes, layout_of, owned_freed, WritesPlain, plain_then}
-use Rattle.heap_place.proofs.GatherLaws.{becomes_twice}
-use Rattle.heap_compact.proofs.KeptLaws.{kept_space}
+use Rattle.heap_compact.proofs.Laws.{subst, Memory, Becomes, layout_of, owned_freed, WritesPlain, plain_then, becomes_twice, kept_space}
 use Rattle.heap_compact.proofs.space.Space.give_back_owned.Goals as goal
 
 pub release_owned-count-requires-clause-none_lent : goal.release_owned-count-requires-clause-none_lent

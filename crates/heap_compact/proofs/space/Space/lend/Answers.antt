@@ -1,14 +1,11 @@
 -- The body reads as zeros, and is one lent part more.
-use Rattle.heap_compact.proofs.Words.{ℕ, ◌≡◌, ◌+◌, ◌∷◌, replicate, refl, ap, ◌∙◌, arith, length-replicate, Lent, HoldsHeap, found_markable, lending_lends, same_bytes, same_lents}
-use Rattle.heap_compact.proofs.KeptLaws.{viewed_heap}
-use Rattle.heap_compact.proofs.SpaceWrites.{BodyWritten, body_written, body_within}
+use Rattle.heap_compact.proofs.Laws.{ℕ, ◌≡◌, ◌+◌, ◌∷◌, replicate, refl, ap, ◌∙◌, arith, length-replicate, Lent, HoldsHeap, found_markable, lending_lends, same_bytes, same_lents, viewed_heap, BodyWritten, body_written, body_within}
 use Rattle.heap_compact.proofs.space.Space.lend.Goals.{After-lend}
 use Rattle.heap_compact.proofs.space.Space.lend.Goals as goal
 
 pub lend-requires : goal.lend-requires
 lend-requires c =
-    let start : c.args.found.place.0 + 0 ≡ c.args.found.place.0 = omega arith in
-    record {
+    let start : c.args.found.place.0 + 0 ≡ c.args.found.place.0 = omega arith in record {
       within = rw start at (body_within c.self.view_is c.self.invariant c.requires.found c.requires.other 0 c.args.found.length (omega arith));
       begins = rw (← c.self.view_is) at c.requires.other;
       place = found_markable _ _ (viewed_heap c.self.view_is c.self.invariant.heap).accepted c.requires.found;

@@ -1,6 +1,5 @@
 -- A chunk that moved had a run to go to, and no table moves.
-use Rattle.heap_compact.proofs.RelocateLaws.{had_run}
-use Rattle.heap_compact.proofs.KeptLaws.{kept_space}
+use Rattle.heap_compact.proofs.Laws.{had_run, kept_space}
 use Rattle.heap_compact.proofs.space.Space.relocate.Goals as goal
 
 pub returns-clause-had_run : goal.returns-clause-had_run

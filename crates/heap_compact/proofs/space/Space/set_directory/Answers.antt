@@ -1,6 +1,5 @@
 -- Another directory leaves lists and tables as they are.
-use Rattle.heap_compact.proofs.Words.{lists_kept}
-use Rattle.master_table.proofs.FurtherLaws.{knows_still}
+use Rattle.heap_compact.proofs.Laws.{lists_kept, knows_still}
 use Rattle.heap_compact.proofs.space.Space.set_directory.Goals as goal
 
 pub invariant_of-self : goal.invariant_of-self

@@ -1,7 +1,5 @@
 -- The bytes are written over the zeros of the body, which is lent no more.
-use Rattle.heap_compact.proofs.Words.{ap, ◌∙◌, arith, without, HoldsHeap, found_markable, back_lends, same_bytes, same_lents}
-use Rattle.heap_compact.proofs.KeptLaws.{viewed_heap}
-use Rattle.heap_compact.proofs.SpaceWrites.{BodyWritten, body_written}
+use Rattle.heap_compact.proofs.Laws.{ap, ◌∙◌, arith, without, HoldsHeap, found_markable, back_lends, same_bytes, same_lents, viewed_heap, BodyWritten, body_written}
 use Rattle.heap_compact.proofs.space.Space.take_back.Goals.{After-take_back}
 use Rattle.heap_compact.proofs.space.Space.take_back.Goals as goal
 
