@@ -11,12 +11,15 @@ use Rattle.mem_manager.proofs.KnownLoans.{here_of}
 
 pub lock_small : (image : List ℕ) (name : ℕ) (found : Found) → HeapAccepted image
     → IsFound image name found → found.lock ≤ fixed_lock
-lock_small image name found h f = let l = f.lock_is in let most = lock_most f.chunk f.finds.named (finds_spelled image name f.live f.chunk (found.place.0 - 8) h f.finds) in omega arith where
+lock_small image name found h f = let l = f.lock_is in let most = lock_most f.chunk f.finds.named
+    (finds_spelled image name f.live f.chunk (found.place.0 - 8) h f.finds) in omega arith where
   lock_most : (c : Chunk) → NamedHere name f.live (found.place.0 - 8) c
       → Spelled image (found.place.0 - 8) c → f.live.lock ≤ fixed_lock
   lock_most (free size) n s = absurd n
-  lock_most (movable bytes lock owner slot) n s = let e : lock ≡ f.live.lock = same_lock n.1 in let fits = s.1.lock_fits in omega arith
-  lock_most (fixed bytes owner) n s = let e : fixed_lock ≡ f.live.lock = same_lock (fixed_live_is (found.place.0 - 8) bytes owner n) in omega arith
+  lock_most (movable bytes lock owner slot) n s = let e : lock ≡ f.live.lock = same_lock n.1 in
+      let fits = s.1.lock_fits in omega arith
+  lock_most (fixed bytes owner) n s = let e : fixed_lock ≡ f.live.lock =
+      same_lock (fixed_live_is (found.place.0 - 8) bytes owner n) in omega arith
 
 pub below_fixed : {m : Memory} {name : ℕ} {found : Found} → IsCallers m name found
     → found.lock ≢ fixed_lock → found.lock < fixed_lock
@@ -97,7 +100,8 @@ module _ {old new : Memory} {name : Name} {found : Found} (o : IsCallers old nam
       let more =
       has o (λ live. found.lock + 1 ≡ live.lock + 1) (ap (λ (n : ℕ). n + 1) o.is.lock_is) in
       alters_does o.heap a (keeps_changed old new _ o.heap.accepted (same_lents rest) o.is ch refl)
-      ((has_chunk o, (no_lock o fixed_lock loose, (no_lock o 14 few, tt))), ((more, ch.place), a.leaves.map)) a.leaves.frame tt rest
+      ((has_chunk o, (no_lock o fixed_lock loose, (no_lock o 14 few, tt))),
+      ((more, ch.place), a.leaves.map)) a.leaves.frame tt rest
 
   pub unlocked : found.lock ≢ fixed_lock → found.lock ≢ 0 → (IsLent old name.0 → ⊥)
       → Relocks (found.lock - 1) → Does old (Unlock name) (Number (found.lock - 1)) new
@@ -109,7 +113,8 @@ module _ {old new : Memory} {name : Name} {found : Found} (o : IsCallers old nam
       let less =
       has o (λ live. found.lock - 1 ≡ live.lock - 1) (ap (λ (n : ℕ). n - 1) o.is.lock_is) in
       alters_does o.heap a (keeps_others old new (same_lents rest) ch here)
-      ((has_chunk o, (no_lock o fixed_lock loose, (no_lock o 0 some, (not_out o here, tt)))), (less, a.leaves.map)) a.leaves.frame tt rest
+      ((has_chunk o, (no_lock o fixed_lock loose, (no_lock o 0 some, (not_out o here, tt)))),
+      (less, a.leaves.map)) a.leaves.frame tt rest
 
   pub reowned : {owner : ℕ} → found.owner ≢ 15 → (IsNoCaller owner → ⊥)
       → Alters old.bytes new.bytes (found.place.0 - 8) (with_owner owner)
@@ -170,13 +175,16 @@ module _ {m : Memory} {name : Name} {found : Found} (o : IsOpen m name.0 found) 
 
 module _ {m : Memory} {name : Name} {found : Found} (o : IsCallers m name.0 found) where
   pub size_known : Does m (Size name) (Number found.length) m
-  size_known = unchanged m (Size name) (Number found.length) o.heap.accepted ((has_chunk o, tt), (has o (λ live. found.length ≡ length live.bytes) o.is.count, λ n. refl))
+  size_known = unchanged m (Size name) (Number found.length) o.heap.accepted
+      ((has_chunk o, tt), (has o (λ live. found.length ≡ length live.bytes) o.is.count, λ n. refl))
 
   pub owner_known : Does m (Owner name) (Number found.owner) m
-  owner_known = unchanged m (Owner name) (Number found.owner) o.heap.accepted ((has_chunk o, tt), (has o (λ live. found.owner ≡ live.owner) o.is.owner_is, λ n. refl))
+  owner_known = unchanged m (Owner name) (Number found.owner) o.heap.accepted
+      ((has_chunk o, tt), (has o (λ live. found.owner ≡ live.owner) o.is.owner_is, λ n. refl))
 
   pub locks_known : Does m (Locks name) (Number found.lock) m
-  locks_known = unchanged m (Locks name) (Number found.lock) o.heap.accepted ((has_chunk o, tt), (has o (λ live. found.lock ≡ live.lock) o.is.lock_is, λ n. refl))
+  locks_known = unchanged m (Locks name) (Number found.lock) o.heap.accepted
+      ((has_chunk o, tt), (has o (λ live. found.lock ≡ live.lock) o.is.lock_is, λ n. refl))
 
   pub read_known : (at count : ℕ) (bytes : List ℕ) → (IsLent m name.0 → ⊥) → (found.length < at + count → ⊥) → bytes ≡ slice_range m.bytes (found.place.0 + at) (found.place.0 + at + count) → Does m (Read name at count) (Data bytes) m
   read_known at count bytes here inside is =

@@ -101,7 +101,8 @@ not_short : {image : List ℕ} {name : ℕ} {found : Found} (size : ℕ) → Hea
     → (f : IsFound image name found) → found.lock ≢ 15 → 0 < size
     → size ≤ size_of f.chunk + free_front f.finds.after → ShortFor image name size → ⊥
 not_short {image} {name} {found} size h f loose some =
-    when_movable image name found f (λ c g. size ≤ size_of c + free_front g.after → ShortFor image name size → ⊥) loose
+    when_movable image name found f
+    (λ c g. size ≤ size_of c + free_front g.after → ShortFor image name size → ⊥) loose
     (λ bytes lock owner slot g. fits_not_short_for image name (found.place.0 - 8) size f.live bytes lock owner slot h g some)
 
 pub grown_passes : {old : Memory} {found : Found} (size : ℕ) {told : Bool} → HoldsHeap old
@@ -178,8 +179,7 @@ resize_replied {old = old} {new = new} {name = name} {found = found} size (Ok an
     let passes = subst (λ (n : ℕ). PassesAll old n size) o.is.name_is could in
     let r = subst (λ (n : ℕ). Resized old.bytes new.bytes n size) o.is.name_is done in
     let there = name_held old.bytes name.0 found o.heap.accepted o.is in
-    let all = rw (there ∙ sym (known o.heap.accepted o.is o.callers)) at passes in
-    record {
+    let all = rw (there ∙ sym (known o.heap.accepted o.is o.callers)) at passes in record {
       before = o.heap.accepted;
       step = ((has_chunk o, (no_data o other, (no_lock o fixed_lock loose, all))), (tt, r.map));
       frame = r.frame;
@@ -202,8 +202,10 @@ managed_resized {old = old} {new = new} name size (Ok answer) m h done same = ma
 
   stays : (other : ℕ) → IsSome (held old.bytes other) → IsSome (if other == name then changed (live_sized size) (held old.bytes name) else held old.bytes other)
   stays other some = elim (cases_eq other name) [
-    | inl same ↦ subst IsSome (sym (cond-true (other == name) _ _ (eq-eqb other name same))) (some_changed (held old.bytes name) (rw same at some))
-    | inr apart ↦ subst IsSome (sym (cond-false (other == name) _ _ (grind (arith, nat_tests)))) some
+    | inl same ↦ subst IsSome (sym (cond-true (other == name) _ _ (eq-eqb other name same)))
+        (some_changed (held old.bytes name) (rw same at some))
+    | inr apart ↦ subst IsSome
+        (sym (cond-false (other == name) _ _ (grind (arith, nat_tests)))) some
   ]
 managed_resized {start = start} {used = used} {freed = freed} {names = names} name size (Err refusal) m h done same = rw (← same) at m
 

@@ -33,7 +33,8 @@ lent_at_found {image} {name} {live} {chunk} {at} lent l f same =
 
 pub lent_locked : (memory : Memory) (name : ℕ) (live : LiveChunk) → HeapAccepted memory.bytes
     → LendsBodies memory → IsLent memory name → held memory.bytes name ≡ Some live → 0 < live.lock
-lent_locked memory name live h l is e = some_gives (λ y. place_of memory.bytes name ≡ Some y.at) (IsLentBody memory.bytes) memory.lents l is one_of_them where
+lent_locked memory name live h l is e = some_gives (λ y. place_of memory.bytes name ≡ Some y.at)
+    (IsLentBody memory.bytes) memory.lents l is one_of_them where
   one_of_them : (lent : Lent) → IsLentBody memory.bytes lent
       → place_of memory.bytes name ≡ Some lent.at → 0 < live.lock
   one_of_them lent l is =
@@ -73,7 +74,8 @@ pub keeps_changed : (old new : Memory) {name : ℕ} {found : Found} (now : LiveC
     → length now.bytes ≡ length f.live.bytes → KeepsLoan old new
 keeps_changed old new {name} {found} now h same f ch many = λ n count is. elim (cases_eq n name) [
   | inl here ↦
-      let mine : f.live ≡ is.live = one_live (sym (name_held old.bytes name found h f) ∙ ap (λ (m : ℕ). held old.bytes m) (sym here) ∙ is.is_held) in
+      let mine : f.live ≡ is.live = one_live (sym (name_held old.bytes name found h f)
+      ∙ ap (λ (m : ℕ). held old.bytes m) (sym here) ∙ is.is_held) in
       let placed : place_of new.bytes n ≡ place_of old.bytes n = ap (λ (m : ℕ). place_of new.bytes m) here ∙ ch.place ∙ sym was ∙ ap (λ (m : ℕ). place_of old.bytes m) (sym here) in (
         record {
           lent = lent_there old new n same placed is.lent;
@@ -96,7 +98,8 @@ keeps_changed old new {name} {found} now h same f ch many = λ n count is. elim 
 
   was : place_of old.bytes name ≡ Some found.place.0
   was =
-      finds_place old.bytes name f.live f.chunk (found.place.0 - 8) h f.finds ∙ ap (λ (n : ℕ). some n) low
+      finds_place old.bytes name f.live f.chunk (found.place.0 - 8) h f.finds
+      ∙ ap (λ (n : ℕ). some n) low
 
 -- where one name's chunk is changed that is not lent
 pub keeps_others : (old new : Memory) {name : ℕ} {now : Option LiveChunk} {there : Option ℕ}
@@ -132,7 +135,8 @@ keeps_owned old new owner h l caller same none b = keeps_still old new h l same 
   each : (n : ℕ) (live : LiveChunk) → IsLent old n → held old.bytes n ≡ Some live
       → held new.bytes n ≡ Some live
   each n live is e =
-      owned_held old.bytes new.bytes owner n h b ∙ ap (λ (x : Option LiveChunk). not_owned owner x) e ∙ elim (cases_eq live.owner owner) [
+      owned_held old.bytes new.bytes owner n h b
+      ∙ ap (λ (x : Option LiveChunk). not_owned owner x) e ∙ elim (cases_eq live.owner owner) [
         | inl own ↦ absurd (none (of n live is e own))
         | inr other ↦ cond-false (live.owner == owner) _ _ (grind (arith, nat_tests))
       ]

@@ -22,7 +22,8 @@ placed {image} {found} h f = rw f.name_is at (one_placed image found h (one_of f
 pub here_of : {m : Memory} {name : Name} {found : Found} → HoldsHeap m
     → IsFound m.bytes name.0 found → LendsOther m found.place.0 → IsLent m name.0 → ⊥
 here_of {m} {name} {found} h f other is =
-    some_gives (λ l. place_of m.bytes name.0 ≡ Some l.at) (λ l. l.at ≢ found.place.0) m.lents other is (λ l differs e. differs (same_place (sym e ∙ placed h.accepted f)))
+    some_gives (λ l. place_of m.bytes name.0 ≡ Some l.at) (λ l. l.at ≢ found.place.0) m.lents other
+    is (λ l differs e. differs (same_place (sym e ∙ placed h.accepted f)))
 
 pub lent_of : (m : Memory) {name : Name} {found : Found} → HeapAccepted m.bytes
     → IsFound m.bytes name.0 found → BeginsAt found.place.0 m.lents → IsLent m name.0
@@ -39,7 +40,8 @@ lent_begins m {name} {found} h f lent =
 pub other_not_lent : {m : Memory} {found : Found} → HoldsHeap m → IsOne m.bytes found
     → LendsOther m found.place.0 → IsLent m found.name.0 → ⊥
 other_not_lent {m} {found} h f other is =
-    some_gives (λ l. place_of m.bytes found.name.0 ≡ Some l.at) (λ l. l.at ≢ found.place.0) m.lents other is (λ l differs e. differs (same_place (sym e ∙ one_placed m.bytes found h.accepted f)))
+    some_gives (λ l. place_of m.bytes found.name.0 ≡ Some l.at) (λ l. l.at ≢ found.place.0) m.lents
+    other is (λ l differs e. differs (same_place (sym e ∙ one_placed m.bytes found h.accepted f)))
 
 pub not_lent_other : {m : Memory} {name : ℕ} {found : Found} → HoldsHeap m
     → IsFound m.bytes name found → (IsLent m name → ⊥) → LendsOther m found.place.0

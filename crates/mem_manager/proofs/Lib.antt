@@ -14,3 +14,4 @@ pub mod SlidChunks
 pub mod StoreCalls
 pub mod Growth
 pub mod MoreSlots
+pub mod Laws

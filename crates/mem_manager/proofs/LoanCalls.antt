@@ -63,7 +63,8 @@ made_out {old} {new} {name} {found} o part bytes x is rest = record {
   leaves = rw (← many) at (out_leaves old (replicate found.length 0) h f (zeros found.length) x);
   out = subst (λ (y : List Lent). SomeLent (λ l. (place_of new.bytes name.0 ≡ Some l.at) × (part.start ≡ l.start) × (length part.bytes ≡ l.count)) y) (sym is) (inl (ch.place, refl, many));
   is_lent = record {
-    lent = subst (λ (y : List Lent). SomeLent (λ l. place_of new.bytes name.0 ≡ Some l.at) y) (sym is) (inl ch.place);
+    lent = subst (λ (y : List Lent). SomeLent (λ l. place_of new.bytes name.0 ≡ Some l.at) y)
+        (sym is) (inl ch.place);
     live = record f.live { bytes = replicate found.length 0 };
     is_held = ch.here;
     many = zeros found.length ∙ sym many;

@@ -21,8 +21,7 @@ pub more_made : {old : Memory} (mid new : Memory) {place : ℕ} → HoldsHeap ol
 more_made {old} mid new {place} h can slides first p rest =
     let alike = slides_alike old.bytes mid.bytes h.accepted slides in
     let more = gains_free mid.bytes new.bytes place slides.becomes.frame.accepted p.gains p.map in
-    let same = alike.slots in
-    record {
+    let same = alike.slots in record {
       before = h.accepted;
       step = ((can, tt), ((tt, omega arith), λ name. p.map name ∙ alike.holds name));
       frame = (place, gains_after old.bytes mid.bytes new.bytes place slides.becomes.frame p.gains);
@@ -38,10 +37,10 @@ more_made {old} mid new {place} h can slides first p rest =
 pub used_gained : {start : TableStart} {freed : ℕ} {names : List ℕ} {old new : Memory} {used : ℕ} (fewer : ℕ) → IsManaged old used start freed names → HoldsHeap new → fewer ≤ used → fewer ≤ slots_total old.bytes → Does old MoreSlots Done new → IsManaged new fewer start freed names
 used_gained {start} {freed} {old} {new} {used} fewer m h most few d =
     let g = d.frame.1 in
-    let same : (name : ℕ) → held new.bytes name ≡ held old.bytes name = d.step.1.1 in
-    record {
+    let same : (name : ℕ) → held new.bytes name ≡ held old.bytes name = d.step.1.1 in record {
       heap = h;
-      in_use = used_more_slots old.bytes new.bytes fewer (gained_slots d.frame.0) (slots_more old.bytes new.bytes d.frame.0 g.count g.further) few
+      in_use = used_more_slots old.bytes new.bytes fewer (gained_slots d.frame.0)
+          (slots_more old.bytes new.bytes d.frame.0 g.count g.further) few
           (λ slot is some empty. some ((slot_unheld old.bytes slot m.heap.accepted is).1 (sym (same slot) ∙ (slot_unheld new.bytes slot g.accepted (gains_slot old.bytes new.bytes d.frame.0 slot g is)).0 empty)))
           (used_fewer old.bytes used fewer most m.in_use);
       starts = starts_gained old.bytes new.bytes

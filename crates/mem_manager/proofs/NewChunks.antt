@@ -41,10 +41,12 @@ pub managed_freed : {start : TableStart} {was freed used fewer name : ℕ} {name
     → ChangesName old.bytes new.bytes name None None → IsManaged new fewer start freed left
 managed_freed {start} {freed = freed} {used = used} {fewer = fewer} {name = name} {old = old} {new = new} m h slot most apart forgets ch = record {
   heap = h;
-  in_use = used_apart old.bytes new.bytes fewer name ch.frame.slots ch.slots apart (used_fewer old.bytes used fewer most m.in_use);
+  in_use = used_apart old.bytes new.bytes fewer name ch.frame.slots ch.slots apart
+      (used_fewer old.bytes used fewer most m.in_use);
   starts = starts_still old.bytes new.bytes start.place start.before ch.frame.tables m.starts;
   free = λ some. slot_alike old.bytes new.bytes freed ch.frame.slots (slot some);
-  known = λ other is. let was = (forgets other).0 is in subst IsSome (sym (ch.others other was.1)) (m.known other was.0);
+  known = λ other is. let was = (forgets other).0 is in
+      subst IsSome (sym (ch.others other was.1)) (m.known other was.0);
 }
 
 -- ---- a new handle
@@ -57,8 +59,7 @@ pub new_left : {old mid new : List ℕ} (size owner : ℕ) {name : ℕ} {there :
     → HeapAccepted old → held mid name ≡ None → SlidesOneStretch old mid
     → ChangesName mid new name (Some (zeros size 0 owner)) there → MakesNew old new name size owner
 new_left {old} {mid} {new} size owner {name} h empty slides ch =
-    let alike = slides_alike old mid h slides in
-    record {
+    let alike = slides_alike old mid h slides in record {
       fresh = sym (alike.holds name) ∙ empty;
       leaves = record {
         map = held_then alike ch;
@@ -131,7 +132,8 @@ managed_made {freed = freed} {name = name} {old = old} {new = new} m h in_use st
   in_use = in_use;
   starts = starts;
   free = λ some. slot_alike old.bytes new.bytes freed made.leaves.frame.slots (m.free some);
-  known = λ other is. subst IsSome (sym (made.leaves.map other)) (some_made old.bytes _ name other (m.known other is));
+  known = λ other is. subst IsSome (sym (made.leaves.map other))
+      (some_made old.bytes _ name other (m.known other is));
 }
 
 -- the table of the slot is where it was
@@ -148,8 +150,7 @@ pub ptr_made : {old : Memory} (mid new : Memory) (size owner : ℕ) {name : Name
     → ChangesName mid.bytes new.bytes name.0 (Some (zeros size fixed_lock owner)) there
     → OnlyBytes mid new → Does old (PtrNew size owner) (Named name) new
 ptr_made {old} mid new size owner {name} h caller room empty slides first ch rest =
-    let alike = slides_alike old.bytes mid.bytes h.accepted slides in
-    record {
+    let alike = slides_alike old.bytes mid.bytes h.accepted slides in record {
       before = h.accepted;
       step = ((caller, (room, tt)), (sym (alike.holds name.0) ∙ empty, held_then alike ch));
       frame = frame_then old.bytes mid.bytes new.bytes slides.becomes.frame ch.frame;
@@ -181,7 +182,8 @@ owner_freed {old} new owner h caller here b counted rest = record {
   before = h.accepted;
   step = ((caller, (here, tt)), (counted ∙ owned-merged owner (chunks_of old.bytes), λ name. owned_held old.bytes new.bytes owner name h.accepted b));
   frame = b.frame;
-  still = λ name live held_there locked is_there. owned_place old.bytes new.bytes owner name h.accepted b is_there;
+  still = λ name live held_there locked is_there. owned_place old.bytes new.bytes owner name
+      h.accepted b is_there;
   loan = keeps_owned old new owner h.accepted h.lent caller (same_lents rest) here b;
   asks = tt;
   rest = rest;
@@ -191,7 +193,8 @@ owner_freed {old} new owner h caller here b counted rest = record {
 pub managed_anew : {new : Memory} {names : List ℕ} {start : TableStart} → HoldsHeap new
     → IsStart new.bytes start → ((name : ℕ) → IsKnown names name → ⊥)
     → IsManaged new 0 start 0 names
-managed_anew h starts none = record { heap = h; in_use = tt; starts = starts; free = λ some. absurd (omega (arith, some)); known = λ name is. absurd (none name is) }
+managed_anew h starts none = record { heap = h; in_use = tt; starts = starts;
+    free = λ some. absurd (omega (arith, some)); known = λ name is. absurd (none name is) }
 
 -- ---- where chunks of one stretch have slid before
 

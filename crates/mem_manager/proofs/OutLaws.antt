@@ -9,7 +9,8 @@ pub out_stays : (old new : Memory) (name : ℕ) (part other : PartOut) → IsOut
     → new.lents ≡ old.lents → place_of new.bytes name ≡ place_of old.bytes name
     → other.start ≡ part.start → length other.bytes ≡ length part.bytes → IsOutUnder new name other
 out_stays old new name part other out same placed start long =
-    subst (λ (lents : List Lent). SomeLent now lents) (sym same) (some_to was now old.lents out (λ lent is. (placed ∙ is.0, start ∙ is.1, long ∙ is.2))) where
+    subst (λ (lents : List Lent). SomeLent now lents) (sym same)
+    (some_to was now old.lents out (λ lent is. (placed ∙ is.0, start ∙ is.1, long ∙ is.2))) where
       was : Lent → Type 0
       was lent = (place_of old.bytes name ≡ Some lent.at) × (part.start ≡ lent.start) × (length part.bytes ≡ lent.count)
 

@@ -6,7 +6,8 @@ use Rattle.mem_manager.proofs.StepWords.{known}
 pub found_there : {image : List ℕ} {place : ℕ} {found : Found} → HeapAccepted image
     → (f : IsOne image found) → found.place.0 ≡ place → 1 ≤ found.owner
     → IsThere image place found.name.0
-found_there {image} {found} h f there positive = record { live = f.live; known = known h f positive; there = one_placed image found h f ∙ ap (λ (n : ℕ). some_place n) there } where
+found_there {image} {found} h f there positive = record { live = f.live; known = known h f positive;
+    there = one_placed image found h f ∙ ap (λ (n : ℕ). some_place n) there } where
   some_place : ℕ → Option ℕ
   some_place n = Some n
 
@@ -58,7 +59,8 @@ nowhere {image} place h none name of = by_known (callers_map image name) of wher
 pub managers_there : {image : List ℕ} {place : ℕ} {found : Found} → HeapAccepted image
     → IsOne image found → found.place.0 ≡ place → found.owner ≡ 0
     → IsNowhere image (callers_map image) place
-managers_there {image} {place} {found} h f there managers name of = by_known (callers_map image name) refl of where
+managers_there {image} {place} {found} h f there managers name of =
+    by_known (callers_map image name) refl of where
   same : (m n : ℕ) → Some m ≡ Some n → m ≡ n
   same m n e = cc
 

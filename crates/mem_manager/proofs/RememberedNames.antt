@@ -7,7 +7,8 @@ pub remembered_held : {old new : List ℕ} (image : List ℕ) {name : ℕ} → K
 remembered_held {old} {new} image {name} known remembers here other is =
     elim (cases_eq (entry_of_name other) (entry_of_name name)) [
       | inl same ↦ rw (sym remembers.this ∙ ap (slice_index new) (sym same) ∙ is.there) at here
-      | inr apart ↦ known other (record { some = is.some; there = sym (remembers.others other apart) ∙ is.there })
+      | inr apart ↦ known other
+          (record { some = is.some; there = sym (remembers.others other apart) ∙ is.there })
     ]
 
 -- a table of zeros has no name

@@ -12,8 +12,7 @@ BytesAndSlid old new = new ≡ record old { bytes = new.bytes; slid = new.slid }
 
 pub compacted : {old : Memory} (new : Memory) {count : ℕ} → HoldsHeap old → Becomes old.bytes new.bytes (packed (chunks_of old.bytes)) → count ≡ moved_bytes old.bytes new.bytes → BytesAndSlid old new → Does old Compact (Number count) new
 compacted {old} new h b moved rest =
-    let alike = packed_alike old.bytes new.bytes h.accepted b in
-    record {
+    let alike = packed_alike old.bytes new.bytes h.accepted b in record {
       before = h.accepted;
       step = (tt, (moved, alike.holds));
       frame = b.frame;
@@ -37,8 +36,7 @@ slots_slid {old} {new} {slot} h frame alike s =
 pub first_slid : {old new : List ℕ} {slot before : ℕ} → HeapAccepted old → SlidesOneStretch old new
     → IsNextEmpty old slot before → IsNextEmpty new slot before
 first_slid {old} {new} {slot} {before} h s first =
-    let alike = slides_alike old new h s in let frame = s.becomes.frame in
-    record {
+    let alike = slides_alike old new h s in let frame = s.becomes.frame in record {
       is_slot = slot_alike old new slot (frame_slots old new frame) first.is_slot;
       empty = (slots_slid h frame alike first.is_slot).0 first.empty;
       used = used_still old new before (frame_slots old new frame)

@@ -82,7 +82,8 @@ module _ {m : Memory} {name : Name} {found : Found} (o : IsCallers m name.0 foun
 
   pub stays_within : (at count : ℕ) → (found.length < at + count → ⊥)
       → Of (callers_map m.bytes name.0) (ReachesBeyond at count) → ⊥
-  stays_within at count inside = let long = o.is.count in has_not (ReachesBeyond at count) (λ beyond. inside (omega arith))
+  stays_within at count inside = let long = o.is.count in
+      has_not (ReachesBeyond at count) (λ beyond. inside (omega arith))
 
 -- the refusal that a method returns is the first of these checks
 pub refuses : {A : Type 0} {brought refusal : Refusal} (checks : List Check) (result : Result A Refusal) → IsErr result × IsErrAnd result (λ answer. answer ≡ brought) → brought ≡ refusal → FirstBrings checks refusal → IfErr result (FirstBrings checks)
@@ -144,7 +145,8 @@ refused {region} {call} {refusal} h brings =
 pub answers : {A : Type 0} {inside value : Memory} {call : MemoryCall} {brought refusal : Refusal} (f : A → Reply) (result : Result A Refusal) → inside ≡ value → IsErr result × IsErrAnd result (λ answer. answer ≡ brought) → brought ≡ refusal → HeapAccepted inside.bytes
     → FirstBrings (row_of inside call).refusals refusal → Does value call (reply_of f result) value
 answers f (Ok answer) view is same h brings = let no = is.0 in absurd cc
-answers {inside = inside} {call = call} f (Err answer) view is same h brings = rw view at (rw (← (is.1 ∙ same)) at (refused h brings))
+answers {inside = inside} {call = call} f (Err answer) view is same h brings =
+    rw view at (rw (← (is.1 ∙ same)) at (refused h brings))
 
 -- the same, where the new value is that of the region
 pub answers_inside : {A : Type 0} {inside value : Memory} {call : MemoryCall} {brought refusal : Refusal} (f : A → Reply) (result : Result A Refusal) → inside ≡ value → IsErr result × IsErrAnd result (λ answer. answer ≡ brought) → brought ≡ refusal → HeapAccepted inside.bytes
@@ -187,7 +189,8 @@ pub record Altered (old new : Memory) (name : ℕ) (change : LiveChunk → LiveC
 pub altered : (old new : Memory) {name : ℕ} {found : Found} (change : LiveChunk → LiveChunk) → HeapAccepted old.bytes → (f : IsFound old.bytes name found) → ChangesName old.bytes new.bytes name (Some (change f.live)) (Some found.place.0) → OnlyBytes old new → Altered old new name change
 altered old new {name} {found} change h f ch rest = record {
   leaves = record {
-    map = λ n. held_updated old.bytes new.bytes name (Some (change f.live)) (Some found.place.0) ch n
+    map =
+        λ n. held_updated old.bytes new.bytes name (Some (change f.live)) (Some found.place.0) ch n
         ∙ ap (λ (x : Option LiveChunk). updated (held old.bytes) name x n)
         (sym (ap (changed change) (name_held old.bytes name found h f)));
     frame = ch.frame;
@@ -199,7 +202,8 @@ altered old new {name} {found} change h f ch rest = record {
 -- a call that changes it does its step
 pub alters_does : {old new : Memory} {call : MemoryCall} {reply : Reply} {name : ℕ} {change : LiveChunk → LiveChunk} → HoldsHeap old → (a : Altered old new name change) → KeepsLoan old new → MemoryStep old call reply new
     → Frames call reply old.bytes new.bytes → OnTrue (row_of old call).only_asks (new ≡ old) → new ≡ record old { bytes = new.bytes; slid = if may_slide call then new.slid else old.slid } → Does old call reply new
-alters_does h a loan step frame asks rest = record { before = h.accepted; step = step; frame = frame; still = a.leaves.still; loan = loan; asks = asks; rest = rest }
+alters_does h a loan step frame asks rest = record { before = h.accepted; step = step;
+    frame = frame; still = a.leaves.still; loan = loan; asks = asks; rest = rest }
 
 -- ---- what a heap has besides its region
 
@@ -229,7 +233,8 @@ managed_alike m h frame alike =
 
 -- where one name's chunk is another
 pub managed_changed : {start : TableStart} {used freed : ℕ} {names : List ℕ} {old new : Memory} {name : ℕ} {now : LiveChunk} {there : Option ℕ} → IsManaged old used start freed names → HoldsHeap new → ChangesName old.bytes new.bytes name (Some now) there → IsManaged new used start freed names
-managed_changed {old = old} {new = new} {name = name} m h ch = managed_still m h ch.frame.slots ch.frame.tables (λ other some. elim (cases_eq other name) [
+managed_changed {old = old} {new = new} {name = name} m h ch =
+    managed_still m h ch.frame.slots ch.frame.tables (λ other some. elim (cases_eq other name) [
   | inl same ↦ subst IsSome (sym (ap (held new.bytes) same ∙ ch.here)) refl
   | inr apart ↦ subst IsSome (sym (ch.others other apart)) some
 ])

@@ -1,6 +1,5 @@
 -- What is found is a caller's chunk that is locked or fixed, and not lent. Else the first check refuses.
-use Rattle.mem_manager.proofs.Words.{inl, inr, refl, also_out_checks}
-use Rattle.mem_manager.proofs.KnownLoans.{lent_of}
+use Rattle.mem_manager.proofs.Laws.{inl, inr, refl, also_out_checks, lent_of}
 use Rattle.mem_manager.proofs.StepWords.{has_lock, is_out, has_chunk, no_lock, one_of, refuses}
 use Rattle.mem_manager.proofs.lookup.find_open.Goals as goal
 
@@ -24,4 +23,5 @@ pub check_here-requires : goal.check_here-requires
 check_here-requires c = record { found = one_of c.in_ok-found.ensures.found }
 
 pub returns-clause-may_write : goal.returns-clause-may_write
-returns-clause-may_write c = record { owned = c.in_ok-found.ensures.callers; locked = c.in_ok-check_locked.ensures.ok; other = c.in_ok-check_here.ensures.ok }
+returns-clause-may_write c = record { owned = c.in_ok-found.ensures.callers;
+    locked = c.in_ok-check_locked.ensures.ok; other = c.in_ok-check_here.ensures.ok }

@@ -1,6 +1,5 @@
 -- A body lies in the image, and its slice is the bytes under its name.
-use Rattle.mem_manager.proofs.Words.{◌≡◌, ◌+◌, ap, subst, sym, ◌∙◌, arith, slice_range, Memory, IsWithin, HeapAccepted, LendsBodies, one_body_within}
-use Rattle.mem_manager.proofs.StoreCalls.{body_found}
+use Rattle.mem_manager.proofs.Laws.{◌≡◌, ◌+◌, ap, subst, sym, ◌∙◌, arith, slice_range, Memory, IsWithin, HeapAccepted, LendsBodies, one_body_within, body_found}
 use Rattle.mem_manager.proofs.heap.Heap.body_of.Goals as goal
 
 pub slice-requires : goal.slice-requires

@@ -1,19 +1,19 @@
 -- All chunks of an owner are freed, or the first check refuses.
-use Rattle.mem_manager.proofs.Words.{refl, inl, inr, Reply}
+use Rattle.mem_manager.proofs.Laws.{refl, inl, inr, Reply, owner_freed, managed_anew, lends_of, lends_none}
 use Rattle.mem_manager.proofs.StepWords.{refused, answers}
-use Rattle.mem_manager.proofs.NewChunks.{owner_freed, managed_anew}
-use Rattle.mem_manager.proofs.LoanCalls.{lends_of, lends_none}
 use Rattle.mem_manager.proofs.heap.Heap.free_by_owner.Goals as goal
 
 pub returns-in_err-check_owner-clause-does : goal.returns-in_err-check_owner-clause-does
 returns-in_err-check_owner-clause-does c =
-    answers (λ count. Reply.Number count) c.from_residual.result c.self.view_is c.from_residual.ensures c.in_err-check_owner.ensures.refusal c.self.invariant.heap.accepted
+    answers (λ count. Reply.Number count) c.from_residual.result c.self.view_is
+    c.from_residual.ensures c.in_err-check_owner.ensures.refusal c.self.invariant.heap.accepted
     (inl (c.in_err-check_owner.ensures.err, refl))
 
 pub returns-in-Some-clause-does : goal.returns-in-Some-clause-does
 returns-in-Some-clause-does c =
     let caller = c.in_ok-check_owner.ensures.ok in
-    let out = lends_of c.self.invariant.heap c.in-Some.ensures.found caller c.in-Some.ensures.owns c.in-Some.ensures.begins in
+    let out = lends_of c.self.invariant.heap c.in-Some.ensures.found caller c.in-Some.ensures.owns
+    c.in-Some.ensures.begins in
     rw (← c.self.view_is) (refused c.self.invariant.heap.accepted (inr (caller, inl (out, refl))))
 
 pub give_back_owned-count-requires-clause-none_lent : goal.give_back_owned-count-requires-clause-none_lent

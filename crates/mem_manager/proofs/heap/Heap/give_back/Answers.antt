@@ -1,10 +1,6 @@
 -- A name loses its chunk, and with it the slot and what is remembered of the name.
-use Rattle.mem_manager.proofs.Words.{subst, sym, ℕ, ◌≡◌, Memory, IsFound, Found, IsLent}
+use Rattle.mem_manager.proofs.Laws.{subst, sym, ℕ, ◌≡◌, Memory, IsFound, Found, IsLent, keeps_others, here_of, gives_back, managed_freed, gone_moves_nothing, leaves_gone}
 use Rattle.mem_manager.proofs.StepWords.{one_of, same_lents}
-use Rattle.mem_manager.proofs.KeptLoans.{keeps_others}
-use Rattle.mem_manager.proofs.KnownLoans.{here_of}
-use Rattle.mem_manager.proofs.NewChunks.{gives_back, managed_freed}
-use Rattle.mem_manager.proofs.StoreCalls.{gone_moves_nothing, leaves_gone}
 use Rattle.mem_manager.proofs.heap.Heap.give_back.Goals as goal
 
 viewed : {inside value : Memory} (name : ℕ) (found : Found) → inside ≡ value

@@ -1,7 +1,5 @@
 -- The first chunk above 0 whose bytes are lent, if there is one, is lent.
-use Rattle.mem_manager.proofs.Words.{subst, Memory, IsNextLoan}
-use Rattle.mem_manager.proofs.KnownLoans.{lent_of}
-use Rattle.mem_manager.proofs.LoanCalls.{begins_some, next_loan, none_above}
+use Rattle.mem_manager.proofs.Laws.{subst, Memory, IsNextLoan, lent_of, begins_some, next_loan, none_above}
 use Rattle.mem_manager.proofs.heap.Heap.lent.Goals as goal
 
 pub returns-in-Some-clause-lent : goal.returns-in-Some-clause-lent

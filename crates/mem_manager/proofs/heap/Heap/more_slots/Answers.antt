@@ -1,6 +1,5 @@
 -- The slots in use stay so, with no more of them counted than there were.
-use Rattle.mem_manager.proofs.Words.{arith}
-use Rattle.mem_manager.proofs.MoreSlots.{used_gained}
+use Rattle.mem_manager.proofs.Laws.{arith, used_gained}
 use Rattle.mem_manager.proofs.heap.Heap.more_slots.Goals as goal
 
 pub invariant_of-self-2 : goal.invariant_of-self-2

@@ -1,8 +1,6 @@
 -- The body of a lent name gets the bytes of its loan.
-use Rattle.mem_manager.proofs.Words.{◌≢◌, subst, sym, ◌≡◌, owner_under, Memory, OnLoan, PutsBack, IsOutUnder}
+use Rattle.mem_manager.proofs.Laws.{◌≢◌, subst, sym, ◌≡◌, owner_under, Memory, OnLoan, PutsBack, IsOutUnder, out_held, out_there, out_whole, out_changes, out_leaves, out_is_lent, out_unmoved, placed, lent_owned, callers_bytes}
 use Rattle.mem_manager.proofs.StepWords.{managed_changed}
-use Rattle.mem_manager.proofs.LoanCalls.{out_held, out_there, out_whole, out_changes, out_leaves, out_is_lent, out_unmoved}
-use Rattle.mem_manager.proofs.KnownLoans.{placed, lent_owned, callers_bytes}
 use Rattle.mem_manager.proofs.heap.Heap.put_back.Goals as goal
 
 -- what is out of the heap's value under the loan's name is out of its region
@@ -41,12 +39,12 @@ returns c =
     let many = out_whole c.loan.inside.part h f out in
     let ch = out_changes bytes h.accepted f many c.take_back.ensures.made in
     let owner = lent_owned c.loan.inside.name.0 h
-    (out_is_lent c.self.inside.space c.loan.inside.name.0 c.loan.inside.part out) in
-    record {
+    (out_is_lent c.self.inside.space c.loan.inside.name.0 c.loan.inside.part out) in record {
       back = subst (λ (l : OnLoan). PutsBack c.args.self.now c.take_back.new.self l) c.loan.view_is
           (rw (← c.self.view_is) (record {
             bytes = callers_bytes bytes h.accepted f owner ch;
-            leaves = out_leaves c.self.inside.space bytes h.accepted f many c.take_back.ensures.made;
+            leaves =
+                out_leaves c.self.inside.space bytes h.accepted f many c.take_back.ensures.made;
             unmoved = out_unmoved h.accepted f ch;
             at = c.chunk-found.result.place.0;
             placed = placed h.accepted f;

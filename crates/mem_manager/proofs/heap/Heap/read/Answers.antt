@@ -1,8 +1,6 @@
 -- The bytes of a chunk are read that lie within it, or the checks refuse it.
-use Rattle.mem_manager.proofs.Words.{◌+◌, ap, ◌∙◌, arith, inl, refl, inr, slice_range, Memory, Reply, one_body_within}
+use Rattle.mem_manager.proofs.Laws.{◌+◌, ap, ◌∙◌, arith, inl, refl, inr, slice_range, Memory, Reply, one_body_within, read_known, here_of, lent_of}
 use Rattle.mem_manager.proofs.StepWords.{one_of, has_chunk, answers, reaches, is_out, not_out}
-use Rattle.mem_manager.proofs.ChunkCalls.{read_known}
-use Rattle.mem_manager.proofs.KnownLoans.{here_of, lent_of}
 use Rattle.mem_manager.proofs.heap.Heap.read.Goals as goal
 
 pub returns-in_err-check_range-clause-does : goal.returns-in_err-check_range-clause-does
@@ -17,7 +15,8 @@ pub returns-in_err-check_here-clause-does : goal.returns-in_err-check_here-claus
 returns-in_err-check_here-clause-does c =
     let err = c.in_err-check_here.ensures.err in let o = c.in_ok-found.ensures.callers in
     let e = c.from_residual-in_err-check_here in
-    answers (λ bytes. Reply.Data bytes.now) e.result c.self.view_is e.ensures c.in_err-check_here.ensures.refusal c.self.invariant.heap.accepted
+    answers (λ bytes. Reply.Data bytes.now) e.result c.self.view_is e.ensures
+    c.in_err-check_here.ensures.refusal c.self.invariant.heap.accepted
     (inr (has_chunk o, inl (is_out o (lent_of c.self.inside.space o.heap.accepted o.is err), refl)))
 
 pub slice-requires : goal.slice-requires

@@ -1,7 +1,6 @@
 -- Bytes of an open chunk are set to one byte, or the checks refuse it.
-use Rattle.mem_manager.proofs.Words.{ℕ, replicate, arith, refl, length-replicate, Reply}
+use Rattle.mem_manager.proofs.Laws.{ℕ, replicate, arith, refl, length-replicate, Reply, write_beyond, write_changes, write_passes, write_refused, overwrites}
 use Rattle.mem_manager.proofs.StepWords.{with_names, one_of, answers_inside, managed_changed, alters_does}
-use Rattle.mem_manager.proofs.ChunkCalls.{write_beyond, write_changes, write_passes, write_refused, overwrites}
 use Rattle.mem_manager.proofs.heap.Heap.set.Goals as goal
 
 pub returns-in_err-found-clause-does : goal.returns-in_err-found-clause-does

@@ -1,7 +1,5 @@
 -- Another directory is named, and all else stays.
-use Rattle.mem_manager.proofs.Words.{inr, same_lents}
-use Rattle.mem_manager.proofs.StoreCalls.{managed_named}
-use Rattle.mem_manager.proofs.KeptLoans.{named_still, keeps_map}
+use Rattle.mem_manager.proofs.Laws.{inr, same_lents, managed_named, named_still, keeps_map}
 use Rattle.mem_manager.proofs.heap.Heap.set_directory.Goals as goal
 
 pub set_directory-requires : goal.set_directory-requires

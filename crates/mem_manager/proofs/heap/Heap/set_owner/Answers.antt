@@ -1,7 +1,6 @@
 -- A chunk goes to another owner, or its checks refuse it.
-use Rattle.mem_manager.proofs.Words.{refl, inl, inr, Reply}
+use Rattle.mem_manager.proofs.Laws.{refl, inl, inr, Reply, reown_changes, can_go_to, reowned}
 use Rattle.mem_manager.proofs.StepWords.{with_names, one_of, is_data, has_chunk, no_data, managed_changed, answers_inside}
-use Rattle.mem_manager.proofs.ChunkCalls.{reown_changes, can_go_to, reowned}
 use Rattle.mem_manager.proofs.heap.Heap.set_owner.Goals as goal
 
 pub returns-in_err-found-clause-does : goal.returns-in_err-found-clause-does
@@ -21,7 +20,8 @@ returns-in_err-check_callers-clause-does c =
 pub returns-in_err-check_owner-clause-does : goal.returns-in_err-check_owner-clause-does
 returns-in_err-check_owner-clause-does c =
     let e = c.from_residual-in_err-check_owner in
-    answers_inside (λ done. Reply.Done) e.result c.self.view_is e.ensures c.in_err-check_owner.ensures.refusal c.self.invariant.heap.accepted
+    answers_inside (λ done. Reply.Done) e.result c.self.view_is e.ensures
+    c.in_err-check_owner.ensures.refusal c.self.invariant.heap.accepted
     (let o = c.in_ok-found.ensures.callers in inr (has_chunk o, inr (no_data o c.in_ok-check_callers.ensures.ok, inl (c.in_err-check_owner.ensures.err, refl))))
 
 pub reown-requires-clause-found : goal.reown-requires-clause-found

@@ -1,7 +1,6 @@
 -- A text is written over bytes of an open chunk, or the checks refuse it.
-use Rattle.mem_manager.proofs.Words.{◌≡◌, ◌+◌, ◌++◌, [], ◌∷◌, length, ap, arith, length-append, refl, sym, not, ℕ, List, ◌∙◌, text_of, Reply, take_while, ◌==◌}
+use Rattle.mem_manager.proofs.Laws.{◌≡◌, ◌+◌, ◌++◌, [], ◌∷◌, length, ap, arith, length-append, refl, sym, not, ℕ, List, ◌∙◌, text_of, Reply, take_while, ◌==◌, write_beyond, write_changes, write_refused, write_passes, overwrites}
 use Rattle.mem_manager.proofs.StepWords.{with_names, one_of, alters_does, answers_inside, managed_changed}
-use Rattle.mem_manager.proofs.ChunkCalls.{write_beyond, write_changes, write_refused, write_passes, overwrites}
 use Rattle.mem_manager.proofs.heap.Heap.str_copy.Goals as goal
 
 -- the text that is written
@@ -25,7 +24,8 @@ returns-in_err-check_ended_range-clause-does c =
     let beyond = c.in_err-check_ended_range.ensures.err in
     let long = ends c.before_zero-part.result.now c.args.text.now c.before_zero-part.ensures in
     let e = c.from_residual-in_err-check_ended_range in
-    answers_inside (λ done. Reply.Done) e.result c.self.view_is e.ensures c.in_err-check_ended_range.ensures.refusal c.self.invariant.heap.accepted
+    answers_inside (λ done. Reply.Done) e.result c.self.view_is e.ensures
+    c.in_err-check_ended_range.ensures.refusal c.self.invariant.heap.accepted
     (write_beyond c.in_ok-found.ensures.may_write c.args.at (length (text_of c.args.text.now)) (omega (arith, long, beyond)))
 
 pub write_ended-requires-clause-found : goal.write_ended-requires-clause-found

@@ -1,7 +1,6 @@
 -- What was found in the region is so in the heap's value.
 use Rattle.std.proofs.lemmas.Option.{IfSome_then}
-use Rattle.mem_manager.proofs.StoreCalls.{owner_viewed, some_viewed, lock_viewed}
-use Rattle.mem_manager.proofs.KnownLoans.{unlocked_here}
+use Rattle.mem_manager.proofs.Laws.{owner_viewed, some_viewed, lock_viewed, unlocked_here}
 use Rattle.mem_manager.proofs.heap.Heap.sys_chunk.Goals as goal
 
 pub returns-clause-owner : goal.returns-clause-owner

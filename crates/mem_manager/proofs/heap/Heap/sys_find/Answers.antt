@@ -1,6 +1,5 @@
 -- A movable name has a chunk, which is found as it stands.
-use Rattle.mem_manager.proofs.StoreCalls.{stands_found, movable_there, movable_loose, movable_viewed}
-use Rattle.mem_manager.proofs.KnownLoans.{unlocked_here}
+use Rattle.mem_manager.proofs.Laws.{stands_found, movable_there, movable_loose, movable_viewed, unlocked_here}
 use Rattle.mem_manager.proofs.heap.Heap.sys_find.Goals as goal
 
 pub movable-requires-clause-there : goal.movable-requires-clause-there

@@ -1,6 +1,5 @@
 -- The body that begins at a chunk's place is the one of its name.
-use Rattle.mem_manager.proofs.KnownLoans.{lent_of, lent_begins}
-use Rattle.mem_manager.proofs.StoreCalls.{found_viewed}
+use Rattle.mem_manager.proofs.Laws.{lent_of, lent_begins, found_viewed}
 use Rattle.mem_manager.proofs.heap.Heap.sys_lends.Goals as goal
 
 pub returns : goal.returns

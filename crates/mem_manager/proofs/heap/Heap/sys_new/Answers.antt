@@ -1,7 +1,5 @@
 -- A chunk is made under an empty slot, and all loans stay.
-use Rattle.mem_manager.proofs.Words.{same_lents}
-use Rattle.mem_manager.proofs.KeptLoans.{keeps_made}
-use Rattle.mem_manager.proofs.NewChunks.{managed_made}
+use Rattle.mem_manager.proofs.Laws.{same_lents, keeps_made, managed_made}
 use Rattle.mem_manager.proofs.heap.Heap.sys_new.Goals as goal
 
 pub returns-clause-had_room : goal.returns-clause-had_room
@@ -17,4 +15,5 @@ returns-clause-loan c =
     (keeps_made c.make_movable.new.space c.self.invariant.heap (same_lents c.make_movable.ensures.rest) c.in_ok-slot.ensures.made)
 
 pub invariant_of-self-2 : goal.invariant_of-self-2
-invariant_of-self-2 c = managed_made c.self.invariant c.make_movable.ensures.heap c.in_ok-slot.ensures.in_use c.in_ok-slot.ensures.table c.in_ok-slot.ensures.made
+invariant_of-self-2 c = managed_made c.self.invariant c.make_movable.ensures.heap
+    c.in_ok-slot.ensures.in_use c.in_ok-slot.ensures.table c.in_ok-slot.ensures.made

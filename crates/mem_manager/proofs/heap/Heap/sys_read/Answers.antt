@@ -1,8 +1,6 @@
 -- The range lies in the body, and its slice is that of the bytes under the name.
-use Rattle.mem_manager.proofs.Words.{◌+◌, sym, ap, subst, ◌∙◌, slice_range, Memory, IsWithin, bytes_under, one_body_within}
-use Rattle.mem_manager.proofs.StoreCalls.{slice_found, within_found}
+use Rattle.mem_manager.proofs.Laws.{◌+◌, sym, ap, subst, ◌∙◌, slice_range, Memory, IsWithin, bytes_under, one_body_within, slice_found, within_found, not_lent_other, here_inside}
 use Rattle.mem_manager.proofs.StepWords.{one_of}
-use Rattle.mem_manager.proofs.KnownLoans.{not_lent_other, here_inside}
 use Rattle.mem_manager.proofs.heap.Heap.sys_read.Goals as goal
 
 pub slice-requires : goal.slice-requires

@@ -1,9 +1,6 @@
 -- A movable chunk takes another length, or the first check refuses.
-use Rattle.mem_manager.proofs.Words.{checks_of_growth, itself_alone}
-use Rattle.mem_manager.proofs.StoreCalls.{found_viewed}
+use Rattle.mem_manager.proofs.Laws.{checks_of_growth, itself_alone, found_viewed, keeps_replied, growth_lent, managed_resized, here_of, lent_of, managers_here}
 use Rattle.mem_manager.proofs.StepWords.{one_of, refuses, same_lents}
-use Rattle.mem_manager.proofs.Growth.{keeps_replied, growth_lent, managed_resized}
-use Rattle.mem_manager.proofs.KnownLoans.{here_of, lent_of, managers_here}
 use Rattle.mem_manager.proofs.heap.Heap.sys_resize.Goals as goal
 
 pub returns-in_err-check_here-clause-why : goal.returns-in_err-check_here-clause-why

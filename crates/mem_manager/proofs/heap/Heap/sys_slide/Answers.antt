@@ -1,9 +1,6 @@
 -- Bytes of a usable chunk are copied within it.
-use Rattle.mem_manager.proofs.Words.{◌+◌, arith, slice_range}
+use Rattle.mem_manager.proofs.Laws.{◌+◌, arith, slice_range, within_viewed, part_length, is_written, slice_found, usable, not_lent_other, write_changes}
 use Rattle.mem_manager.proofs.StepWords.{managed_changed, one_of, same_lents}
-use Rattle.mem_manager.proofs.StoreCalls.{within_viewed, part_length, is_written, slice_found, usable}
-use Rattle.mem_manager.proofs.KnownLoans.{not_lent_other}
-use Rattle.mem_manager.proofs.ChunkCalls.{write_changes}
 use Rattle.mem_manager.proofs.heap.Heap.sys_slide.Goals as goal
 
 pub slide_within-requires-clause-from_within : goal.slide_within-requires-clause-from_within

@@ -1,9 +1,6 @@
 -- Bytes of a usable chunk are written.
-use Rattle.mem_manager.proofs.Words.{◌+◌, length}
+use Rattle.mem_manager.proofs.Laws.{◌+◌, length, within_viewed, is_written, usable, not_lent_other, write_changes}
 use Rattle.mem_manager.proofs.StepWords.{managed_changed, same_lents}
-use Rattle.mem_manager.proofs.StoreCalls.{within_viewed, is_written, usable}
-use Rattle.mem_manager.proofs.KnownLoans.{not_lent_other}
-use Rattle.mem_manager.proofs.ChunkCalls.{write_changes}
 use Rattle.mem_manager.proofs.heap.Heap.sys_write.Goals as goal
 
 pub write-requires-clause-within : goal.write-requires-clause-within

@@ -1,7 +1,6 @@
 -- Bytes are written over those of an open chunk, or the checks refuse it.
-use Rattle.mem_manager.proofs.Words.{length, arith, refl, Reply}
+use Rattle.mem_manager.proofs.Laws.{length, arith, refl, Reply, write_beyond, write_changes, write_passes, overwrites, write_refused}
 use Rattle.mem_manager.proofs.StepWords.{with_names, one_of, alters_does, answers_inside, managed_changed}
-use Rattle.mem_manager.proofs.ChunkCalls.{write_beyond, write_changes, write_passes, overwrites, write_refused}
 use Rattle.mem_manager.proofs.heap.Heap.write.Goals as goal
 
 pub returns-in_err-found-clause-does : goal.returns-in_err-found-clause-does

@@ -1,7 +1,6 @@
 -- The slot of a movable chunk is a slot.
-use Rattle.mem_manager.proofs.Words.{◌∙◌, name_held, IsMovable}
+use Rattle.mem_manager.proofs.Laws.{◌∙◌, name_held, IsMovable, movable_there, movable_loose}
 use Rattle.heap_place.proofs.LookupLaws.{movable_holds_place}
-use Rattle.mem_manager.proofs.StoreCalls.{movable_there, movable_loose}
 use Rattle.mem_manager.proofs.heap.making.freed_slot.Goals as goal
 
 pub returns-then-found-ne-FIXED_LOCK : goal.returns-then-found-ne-FIXED_LOCK

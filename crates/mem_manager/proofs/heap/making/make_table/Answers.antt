@@ -1,8 +1,6 @@
 -- A table is put in room for it, or the first check refuses.
-use Rattle.mem_manager.proofs.Words.{◌≡◌, true, sym, ap, ◌∙◌, inl, inr, refl, Memory, is_chained, Reply, false≢true}
+use Rattle.mem_manager.proofs.Laws.{◌≡◌, true, sym, ap, ◌∙◌, inl, inr, refl, Memory, is_chained, Reply, false≢true, nothing_slides, itself_one, one_stretch_then, more_made, more_once, puts_move_nothing}
 use Rattle.mem_manager.proofs.StepWords.{answers}
-use Rattle.mem_manager.proofs.SlidChunks.{nothing_slides, itself_one, one_stretch_then}
-use Rattle.mem_manager.proofs.MoreSlots.{more_made, more_once, puts_move_nothing}
 use Rattle.mem_manager.proofs.heap.making.make_table.Goals as goal
 
 pub returns-then-not-is_chained-clause-one_stretch : goal.returns-then-not-is_chained-clause-one_stretch
@@ -31,4 +29,5 @@ returns-clause-one_stretch c =
     (puts_move_nothing c.claim_table.ensures.made)
 
 pub returns-clause-once : goal.returns-clause-once
-returns-clause-once c = more_once c.args.space.now c.room_for.new.space c.claim_table.new.self c.claim_table.ensures.made c.claim_table.ensures.rest c.room_for.ensures.once
+returns-clause-once c = more_once c.args.space.now c.room_for.new.space c.claim_table.new.self
+    c.claim_table.ensures.made c.claim_table.ensures.rest c.room_for.ensures.once

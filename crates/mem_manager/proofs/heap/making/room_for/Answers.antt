@@ -1,6 +1,5 @@
 -- A size beyond the limit is short of room, and nothing moves.
-use Rattle.mem_manager.proofs.Words.{arith, need, short_beyond}
-use Rattle.heap_compact.proofs.MadeRoomLaws.{slides_nothing, moves_none}
+use Rattle.mem_manager.proofs.Laws.{arith, need, short_beyond, slides_nothing, moves_none}
 use Rattle.mem_manager.proofs.heap.making.room_for.Goals as goal
 
 pub returns-in_default-clause-short : goal.returns-in_default-clause-short

@@ -1,7 +1,5 @@
 -- A chunk grows where it stands or elsewhere, or the first check refuses.
-use Rattle.mem_manager.proofs.Words.{◌≡◌, sym, subst, arith, Memory, need, ShortFor, MovesOneStretchAnd, Resized, nothing_alone, itself_alone}
-use Rattle.mem_manager.proofs.Growth.{never_fits, growth_locked, growth_short, grown_passes, grown_leaves, grown_moves_nothing, moved_passes}
-use Rattle.mem_manager.proofs.KnownLoans.{other_not_lent}
+use Rattle.mem_manager.proofs.Laws.{◌≡◌, sym, subst, arith, Memory, need, ShortFor, MovesOneStretchAnd, Resized, nothing_alone, itself_alone, never_fits, growth_locked, growth_short, grown_passes, grown_leaves, grown_moves_nothing, moved_passes, other_not_lent}
 use Rattle.mem_manager.proofs.heap.moving.resize_found.Goals as goal
 
 pub returns-then-grow_in_place-clause-done : goal.returns-then-grow_in_place-clause-done
