@@ -1,5 +1,5 @@
 -- Re-exports the laws that several answers of this crate cite. Declares nothing.
-pub use Rattle.heap_place.proofs.Words.{rules, same_bytes, same_lents, ◌∙◌, ap, arith, IsFreeChunk, need, length-replicate, inl, refl, slot_facts, slot_still_within, ◌+◌, ◌-◌, IsSpot, part_misses, spot_within, sym, subst, IsBound, plain_then, IsWithin, u32_bytes, overwritten, ButAt, Option, Some, None, IfNone, ℕ, List, HeapAccepted, chunks_of, Found, NothingAt, NoneFixedAs, NoSlotHolds, found_within, OnFalse_at, HoldsPlace, both_ways, Passed, NoneLentAmong, Memory, NoneOwned, IsOne, ◌++◌, IsRoom, Searched, walked_misses, Looking, slice_set, AreLists, Misses, NoneBeginsAt, HaveFreeBytes, free_by}
+pub use Rattle.heap_place.proofs.Words.{rules, same_bytes, same_lents, ◌∙◌, ap, arith, IsFreeChunk, need, length-replicate, inl, refl, slot_facts, slot_still_within, ◌+◌, ◌-◌, IsSpot, part_misses, spot_within, sym, subst, IsBound, plain_then, IsWithin, u32_bytes, overwritten, ButAt, Option, Some, None, IfNone, ℕ, List, HeapAccepted, chunks_of, Found, NothingAt, NoneFixedAs, NoSlotHolds, found_within, OnFalse_at, HoldsPlace, both_ways, Passed, NoneLentAmong, Memory, IsOne, ◌++◌, IsRoom, Searched, walked_misses, Looking, slice_set, AreLists, Misses, NoneBeginsAt, HaveFreeBytes, free_by}
 pub use Rattle.heap_place.proofs.AlikeLaws.{one_word, no_words, alike_spot, alike_cuts, alike_becomes, taken_outside, linked_past, linked_nowhere, chunk_of_class}
 pub use Rattle.heap_place.proofs.AlterLaws.{relocked_there, reowned_there}
 pub use Rattle.heap_place.proofs.CutLaws.{cut_facts, fixed_claimed, claimed_table, claimed_write, room_facts, rest_length, was_cut}

@@ -1,5 +1,5 @@
 -- When the walk ends, all chunks of the owner are free.
-use Rattle.heap_place.proofs.Laws.{refl, sym, ap, ◌∙◌, arith, Memory, NoneOwned, same_lents, owned_one, owned_apart, freeing_start, freeing_there, freeing_kept, freeing_more, freeing_all, owned_other, passed_misses, freed_none_lent}
+use Rattle.heap_place.proofs.Laws.{refl, sym, ap, ◌∙◌, arith, Memory, same_lents, owned_one, owned_apart, freeing_start, freeing_there, freeing_kept, freeing_more, freeing_all, owned_other, passed_misses, freed_none_lent}
 use Rattle.heap_place.proofs.owned.release_owned.Goals as goal
 
 pub loop-at-init : goal.loop-at-init
