@@ -1,5 +1,5 @@
 -- Resizing, dropping or packing a chunk touches no lent part, and each stays a body.
-use Rattle.heap_compact.proofs.Words.{◌≡◌, ◌≢◌, ℕ, zero, suc, ◌+◌, ◌-◌, ◌≤◌, List, [], ◌∷◌, ◌++◌, refl, sym, ap, subst, ◌∙◌, arith, inl, inr, append_assoc, Memory, Lent, IsAmong, MissesOne, IsWithin, Chunk, free, movable, fixed, need, size_of, total, area_start, chunks_of, AnyPlaced, gap, merged, with_length, AllFree, LentHere, IsLentBody, LendsOther, HoldsHeap, LiveChunk, NamedHere, Found, IsOne, RunBehind, Resizes, IsDroppable, MovesDown, IsBehindRoom, PackedOne, packed_one, length-sized_to, total-append, gap_total, each_of, each_to, lent_chunk, run_apart, all_free_loose, apart, in_front, one, behind, stays_here, none_lent, run_within, replaced_lends, loose_lends, one_body_within, run_facts, found_size}
+use Rattle.heap_compact.proofs.Words.{◌≡◌, ◌≢◌, ℕ, zero, suc, ◌+◌, ◌-◌, ◌≤◌, List, [], ◌∷◌, ◌++◌, refl, sym, ap, subst, ◌∙◌, arith, inl, inr, append_assoc, Memory, Lent, IsAmong, MissesOne, IsWithin, Chunk, free, movable, fixed, need, size_of, total, chunks_of, AnyPlaced, gap, merged, with_length, AllFree, LentHere, IsLentBody, LendsOther, HoldsHeap, LiveChunk, NamedHere, Found, IsOne, RunBehind, Resizes, IsDroppable, MovesDown, IsBehindRoom, PackedOne, packed_one, length-sized_to, total-append, gap_total, each_of, each_to, lent_chunk, run_apart, all_free_loose, apart, in_front, one, behind, stays_here, none_lent, run_within, replaced_lends, loose_lends, one_body_within, run_facts, found_size}
 
 -- ---- a chunk that isn't lent, and what is free after it
 
