@@ -13,36 +13,36 @@ pub keeps_tiled : {old new : List ℕ} {before mid others after : List Chunk} {a
     → KeepsFree (NotAmong at mid) old new
 keeps_tiled {old} {new} {before} {mid} {others} {after} {at} was now r there apart b =
     elim (AnyPlaced-split (IsFreeAt there) start before (mid ++ after) found) [
-  | inl front ↦ record {
-    begins = is (AnyPlaced-left (IsFreeAt there) start before (others ++ after) front);
-    first = free_word old new there start before r.front.words front;
-    second = r.front.seconds there front;
-  }
-  | inr rest ↦ elim (AnyPlaced-split (IsFreeAt there) (start + total before) mid after rest) [
-    | inl these ↦ absurd (apart (subst (λ n. AnyPlaced (IsFreeAt there) n mid) (sym begins) these))
-    | inr back ↦
-        let behind = rw (← begins) at back in let moved = rw (← sums) at back in record {
-          begins = is (AnyPlaced-right (IsFreeAt there) start before (others ++ after) (AnyPlaced-right (IsFreeAt there) (start + total before) others after moved));
-          first = free_word old new there (at + total mid) after r.back.words behind;
-          second = r.back.seconds there behind;
-        }
-  ]
-] where
-  start : ℕ
-  start = area_start old
+      | inl front ↦ record {
+        begins = is (AnyPlaced-left (IsFreeAt there) start before (others ++ after) front);
+        first = free_word old new there start before r.front.words front;
+        second = r.front.seconds there front;
+      }
+      | inr rest ↦ elim (AnyPlaced-split (IsFreeAt there) (start + total before) mid after rest) [
+        | inl these ↦ absurd (apart (subst (λ n. AnyPlaced (IsFreeAt there) n mid) (sym begins) these))
+        | inr back ↦
+            let behind = rw (← begins) at back in let moved = rw (← sums) at back in record {
+              begins = is (AnyPlaced-right (IsFreeAt there) start before (others ++ after) (AnyPlaced-right (IsFreeAt there) (start + total before) others after moved));
+              first = free_word old new there (at + total mid) after r.back.words behind;
+              second = r.back.seconds there behind;
+            }
+      ]
+    ] where
+      start : ℕ
+      start = area_start old
 
-  begins : at ≡ start + total before
-  begins = r.there
+      begins : at ≡ start + total before
+      begins = r.there
 
-  sums : total others ≡ total mid
-  sums = replaced_total old new before mid others after at r
+      sums : total others ≡ total mid
+      sums = replaced_total old new before mid others after at r
 
-  found : AnyPlaced (IsFreeAt there) (area_start old) (before ++ (mid ++ after))
-  found = subst (λ cs. AnyPlaced (IsFreeAt there) (area_start old) cs) was b
+      found : AnyPlaced (IsFreeAt there) (area_start old) (before ++ (mid ++ after))
+      found = subst (λ cs. AnyPlaced (IsFreeAt there) (area_start old) cs) was b
 
-  is : AnyPlaced (IsFreeAt there) (area_start old) (before ++ (others ++ after))
-      → BeginsFree new there
-  is a = rw (← (same_start old new r.head)) at (rw (← (chunks_of-tiled new _ now)) at a)
+      is : AnyPlaced (IsFreeAt there) (area_start old) (before ++ (others ++ after))
+          → BeginsFree new there
+      is a = rw (← (same_start old new r.head)) at (rw (← (chunks_of-tiled new _ now)) at a)
 
 pub keeps_replaced : (old new : List ℕ) (before mid others after : List Chunk) (at : ℕ) → HeapAccepted old → chunks_of old ≡ before ++ (mid ++ after) → IsHeap new (before ++ (others ++ after)) → Replaces old new before mid others after at
     → KeepsFree (NotAmong at mid) old new
@@ -69,17 +69,17 @@ other_apart at size there apart these = elim these [ inl here ↦ apart (sym her
 pub others_outside : {image : List ℕ} (before : List Chunk) (size : ℕ) (after : List Chunk) {at : ℕ} (there : ℕ) → HeapAccepted image → chunks_of image ≡ before ++ free size ∷ after → at ≡ area_start image + total before → BeginsFree image there → there ≢ at → Outside at size there
 others_outside {image} before size after there h was is b apart =
     elim (AnyPlaced-split (IsFreeAt there) (area_start image) before (free size ∷ after) found) [
-  | inl front ↦ let f = free_inside there _ before sizes.0 front in inl (omega arith)
-  | inr rest ↦ elim rest [
-    | inl here ↦ absurd (apart (omega arith))
-    | inr back ↦ let f = free_inside there _ after sizes.1.1 back in inr (omega arith)
-  ]
-] where
-  found : AnyPlaced (IsFreeAt there) (area_start image) (before ++ free size ∷ after)
-  found = subst (λ cs. AnyPlaced (IsFreeAt there) (area_start image) cs) was b
+      | inl front ↦ let f = free_inside there _ before sizes.0 front in inl (omega arith)
+      | inr rest ↦ elim rest [
+        | inl here ↦ absurd (apart (omega arith))
+        | inr back ↦ let f = free_inside there _ after sizes.1.1 back in inr (omega arith)
+      ]
+    ] where
+      found : AnyPlaced (IsFreeAt there) (area_start image) (before ++ free size ∷ after)
+      found = subst (λ cs. AnyPlaced (IsFreeAt there) (area_start image) cs) was b
 
-  sizes : EveryPlaced TakesBytes (area_start image) before × EveryPlaced TakesBytes (area_start image + total before) (free size ∷ after)
-  sizes = EveryPlaced-split _ _ _ _ (SpelledAll-takes _ _ _ _ (heap_in_parts _ _ h was).tiles.area)
+      sizes : EveryPlaced TakesBytes (area_start image) before × EveryPlaced TakesBytes (area_start image + total before) (free size ∷ after)
+      sizes = EveryPlaced-split _ _ _ _ (SpelledAll-takes _ _ _ _ (heap_in_parts _ _ h was).tiles.area)
 
 -- ---- the second word of a free chunk
 

@@ -184,7 +184,7 @@ others_lend old {new} {found} part h l f x many other =
     let size = bytes_size found.name.0 _ 0 f.live f.chunk part f.finds.named (omega arith) in
     let there : found.place.0 ≡ found.place.0 - 8 + 8 = omega arith in
     other_lends old (record old { bytes = new }) _ f.live f.chunk _
-        (λ c. with_bytes 0 part c ∷ []) h l refl f.finds x (omega arith) (rw there at other)
+    (λ c. with_bytes 0 part c ∷ []) h l refl f.finds x (omega arith) (rw there at other)
 
 pub lending_lends : (old new : Memory) (found : Found) (lent : Lent) (part : List ℕ) → HeapAccepted old.bytes → LendsBodies old → LendsOther old found.place.0 → new.lents ≡ lent ∷ old.lents → (f : IsOne old.bytes found) → 0 < found.lock → Alters old.bytes new.bytes (found.place.0 - 8) (with_bytes 0 part) → length part ≡ found.length → lent.at ≡ found.place.0 → lent.count ≡ found.length → LendsBodies new
 lending_lends old new found lent part h l other is f some x many there count =
