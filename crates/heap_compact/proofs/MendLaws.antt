@@ -190,7 +190,7 @@ module _ {gap : ℕ} {u : Lift gap} {image : List ℕ} {done : List Chunk} {byte
         let sizes = carried_total gap rest in
         let was : at + total (c ∷ rest) ≡ at + need (length bytes) + total rest = omega arith in
         let is : at + total (carried gap c ∷ []) + total (all_carried gap rest)
-            ≡ at + need (length bytes) + total rest = omega (arith, sizes) in
+        ≡ at + need (length bytes) + total rest = omega (arith, sizes) in
         record {
           heap = m.next.grown;
           there = grown_there l;
