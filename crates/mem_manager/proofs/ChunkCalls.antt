@@ -13,13 +13,13 @@ pub lock_small : (image : List ℕ) (name : ℕ) (found : Found) → HeapAccepte
     → IsFound image name found → found.lock ≤ fixed_lock
 lock_small image name found h f = let l = f.lock_is in let most = lock_most f.chunk f.finds.named
     (finds_spelled image name f.live f.chunk (found.place.0 - 8) h f.finds) in omega arith where
-  lock_most : (c : Chunk) → NamedHere name f.live (found.place.0 - 8) c
-      → Spelled image (found.place.0 - 8) c → f.live.lock ≤ fixed_lock
-  lock_most (free size) n s = absurd n
-  lock_most (movable bytes lock owner slot) n s = let e : lock ≡ f.live.lock = same_lock n.1 in
-      let fits = s.1.lock_fits in omega arith
-  lock_most (fixed bytes owner) n s = let e : fixed_lock ≡ f.live.lock =
-      same_lock (fixed_live_is (found.place.0 - 8) bytes owner n) in omega arith
+      lock_most : (c : Chunk) → NamedHere name f.live (found.place.0 - 8) c
+          → Spelled image (found.place.0 - 8) c → f.live.lock ≤ fixed_lock
+      lock_most (free size) n s = absurd n
+      lock_most (movable bytes lock owner slot) n s = let e : lock ≡ f.live.lock = same_lock n.1 in
+          let fits = s.1.lock_fits in omega arith
+      lock_most (fixed bytes owner) n s = let e : fixed_lock ≡ f.live.lock =
+          same_lock (fixed_live_is (found.place.0 - 8) bytes owner n) in omega arith
 
 pub below_fixed : {m : Memory} {name : ℕ} {found : Found} → IsCallers m name found
     → found.lock ≢ fixed_lock → found.lock < fixed_lock
@@ -99,9 +99,10 @@ module _ {old new : Memory} {name : Name} {found : Found} (o : IsCallers old nam
       altered old new (λ live. record live { lock = live.lock + 1 }) o.heap.accepted o.is ch rest in
       let more =
       has o (λ live. found.lock + 1 ≡ live.lock + 1) (ap (λ (n : ℕ). n + 1) o.is.lock_is) in
-      alters_does o.heap a (keeps_changed old new _ o.heap.accepted (same_lents rest) o.is ch refl)
-      ((has_chunk o, (no_lock o fixed_lock loose, (no_lock o 14 few, tt))),
-      ((more, ch.place), a.leaves.map)) a.leaves.frame tt rest
+      alters_does o.heap a (keeps_changed old new _ o.heap.accepted (same_lents rest) o.is ch refl) (
+        (has_chunk o, (no_lock o fixed_lock loose, (no_lock o 14 few, tt))),
+        ((more, ch.place), a.leaves.map),
+      ) a.leaves.frame tt rest
 
   pub unlocked : found.lock ≢ fixed_lock → found.lock ≢ 0 → (IsLent old name.0 → ⊥)
       → Relocks (found.lock - 1) → Does old (Unlock name) (Number (found.lock - 1)) new
@@ -112,9 +113,10 @@ module _ {old new : Memory} {name : Name} {found : Found} (o : IsCallers old nam
       altered old new (λ live. record live { lock = live.lock - 1 }) o.heap.accepted o.is ch rest in
       let less =
       has o (λ live. found.lock - 1 ≡ live.lock - 1) (ap (λ (n : ℕ). n - 1) o.is.lock_is) in
-      alters_does o.heap a (keeps_others old new (same_lents rest) ch here)
-      ((has_chunk o, (no_lock o fixed_lock loose, (no_lock o 0 some, (not_out o here, tt)))),
-      (less, a.leaves.map)) a.leaves.frame tt rest
+      alters_does o.heap a (keeps_others old new (same_lents rest) ch here) (
+        (has_chunk o, (no_lock o fixed_lock loose, (no_lock o 0 some, (not_out o here, tt)))),
+        (less, a.leaves.map),
+      ) a.leaves.frame tt rest
 
   pub reowned : {owner : ℕ} → found.owner ≢ 15 → (IsNoCaller owner → ⊥)
       → Alters old.bytes new.bytes (found.place.0 - 8) (with_owner owner)

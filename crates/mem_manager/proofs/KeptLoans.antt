@@ -35,13 +35,13 @@ pub lent_locked : (memory : Memory) (name : ℕ) (live : LiveChunk) → HeapAcce
     → LendsBodies memory → IsLent memory name → held memory.bytes name ≡ Some live → 0 < live.lock
 lent_locked memory name live h l is e = some_gives (λ y. place_of memory.bytes name ≡ Some y.at)
     (IsLentBody memory.bytes) memory.lents l is one_of_them where
-  one_of_them : (lent : Lent) → IsLentBody memory.bytes lent
-      → place_of memory.bytes name ≡ Some lent.at → 0 < live.lock
-  one_of_them lent l is =
-      let g = held_finds memory.bytes name live h e in
-      let there : g.at + 8 ≡ lent.at =
-      one_place (sym (finds_place memory.bytes name live g.chunk g.at h g.finds) ∙ is) in
-      locked_here lent g.at name live g.chunk g.finds.named (lent_at_found lent l g.finds there)
+      one_of_them : (lent : Lent) → IsLentBody memory.bytes lent
+          → place_of memory.bytes name ≡ Some lent.at → 0 < live.lock
+      one_of_them lent l is =
+          let g = held_finds memory.bytes name live h e in
+          let there : g.at + 8 ≡ lent.at =
+          one_place (sym (finds_place memory.bytes name live g.chunk g.at h g.finds) ∙ is) in
+          locked_here lent g.at name live g.chunk g.finds.named (lent_at_found lent l g.finds there)
 
 -- ---- a name that is lent
 

@@ -193,8 +193,7 @@ owner_freed {old} new owner h caller here b counted rest = record {
 pub managed_anew : {new : Memory} {names : List ℕ} {start : TableStart} → HoldsHeap new
     → IsStart new.bytes start → ((name : ℕ) → IsKnown names name → ⊥)
     → IsManaged new 0 start 0 names
-managed_anew h starts none = record { heap = h; in_use = tt; starts = starts;
-    free = λ some. absurd (omega (arith, some)); known = λ name is. absurd (none name is) }
+managed_anew h starts none = record { heap = h; in_use = tt; starts = starts; free = λ some. absurd (omega (arith, some)); known = λ name is. absurd (none name is) }
 
 -- ---- where chunks of one stretch have slid before
 

@@ -6,8 +6,7 @@ use Rattle.mem_manager.proofs.StepWords.{known}
 pub found_there : {image : List ℕ} {place : ℕ} {found : Found} → HeapAccepted image
     → (f : IsOne image found) → found.place.0 ≡ place → 1 ≤ found.owner
     → IsThere image place found.name.0
-found_there {image} {found} h f there positive = record { live = f.live; known = known h f positive;
-    there = one_placed image found h f ∙ ap (λ (n : ℕ). some_place n) there } where
+found_there {image} {found} h f there positive = record { live = f.live; known = known h f positive; there = one_placed image found h f ∙ ap (λ (n : ℕ). some_place n) there } where
   some_place : ℕ → Option ℕ
   some_place n = Some n
 
@@ -61,20 +60,20 @@ pub managers_there : {image : List ℕ} {place : ℕ} {found : Found} → HeapAc
     → IsNowhere image (callers_map image) place
 managers_there {image} {place} {found} h f there managers name of =
     by_known (callers_map image name) refl of where
-  same : (m n : ℕ) → Some m ≡ Some n → m ≡ n
-  same m n e = cc
+      same : (m n : ℕ) → Some m ≡ Some n → m ≡ n
+      same m n e = cc
 
-  by_known : (x : Option LiveChunk) → callers_map image name ≡ x
-      → Of x (λ live. place_of image name ≡ Some place) → ⊥
-  by_known None e o = o
-  by_known (Some live) e at =
-      let g = held_finds image name live h (callers_held (held image name) live e) in
-      let body : g.at + 8 ≡ place =
-      same _ _ (sym (finds_place image name live g.chunk g.at h g.finds) ∙ at) in
-      let one : g.at ≡ found.place.0 - 8 = omega arith in
-      let its = finds_one image name found.name.0 live f.live g.chunk f.chunk (found.place.0 - 8) h
-      (rw one at g.finds) f.finds in
-      not_managers live (ap (not_owned 0) (sym (callers_held (held image name) live e)) ∙ e)
-      (ap (λ (l : LiveChunk). l.owner) its ∙ sym f.owner_is ∙ managers)
+      by_known : (x : Option LiveChunk) → callers_map image name ≡ x
+          → Of x (λ live. place_of image name ≡ Some place) → ⊥
+      by_known None e o = o
+      by_known (Some live) e at =
+          let g = held_finds image name live h (callers_held (held image name) live e) in
+          let body : g.at + 8 ≡ place =
+          same _ _ (sym (finds_place image name live g.chunk g.at h g.finds) ∙ at) in
+          let one : g.at ≡ found.place.0 - 8 = omega arith in
+          let its = finds_one image name found.name.0 live f.live g.chunk f.chunk (found.place.0 - 8) h
+          (rw one at g.finds) f.finds in
+          not_managers live (ap (not_owned 0) (sym (callers_held (held image name) live e)) ∙ e)
+          (ap (λ (l : LiveChunk). l.owner) its ∙ sym f.owner_is ∙ managers)
 
 -- ---- what recover answers

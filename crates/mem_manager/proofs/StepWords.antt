@@ -202,8 +202,7 @@ altered old new {name} {found} change h f ch rest = record {
 -- a call that changes it does its step
 pub alters_does : {old new : Memory} {call : MemoryCall} {reply : Reply} {name : ℕ} {change : LiveChunk → LiveChunk} → HoldsHeap old → (a : Altered old new name change) → KeepsLoan old new → MemoryStep old call reply new
     → Frames call reply old.bytes new.bytes → OnTrue (row_of old call).only_asks (new ≡ old) → new ≡ record old { bytes = new.bytes; slid = if may_slide call then new.slid else old.slid } → Does old call reply new
-alters_does h a loan step frame asks rest = record { before = h.accepted; step = step;
-    frame = frame; still = a.leaves.still; loan = loan; asks = asks; rest = rest }
+alters_does h a loan step frame asks rest = record { before = h.accepted; step = step; frame = frame; still = a.leaves.still; loan = loan; asks = asks; rest = rest }
 
 -- ---- what a heap has besides its region
 
@@ -235,9 +234,9 @@ managed_alike m h frame alike =
 pub managed_changed : {start : TableStart} {used freed : ℕ} {names : List ℕ} {old new : Memory} {name : ℕ} {now : LiveChunk} {there : Option ℕ} → IsManaged old used start freed names → HoldsHeap new → ChangesName old.bytes new.bytes name (Some now) there → IsManaged new used start freed names
 managed_changed {old = old} {new = new} {name = name} m h ch =
     managed_still m h ch.frame.slots ch.frame.tables (λ other some. elim (cases_eq other name) [
-  | inl same ↦ subst IsSome (sym (ap (held new.bytes) same ∙ ch.here)) refl
-  | inr apart ↦ subst IsSome (sym (ch.others other apart)) some
-])
+      | inl same ↦ subst IsSome (sym (ap (held new.bytes) same ∙ ch.here)) refl
+      | inr apart ↦ subst IsSome (sym (ch.others other apart)) some
+    ])
 
 -- where other names are remembered
 pub with_names : {start : TableStart} {used freed : ℕ} {names more : List ℕ} {memory : Memory}

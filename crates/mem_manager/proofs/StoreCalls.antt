@@ -126,8 +126,7 @@ may_go_to {value = value} {name = name} view s other some most = record {
 
 pub leaves_gone : {old new : List ℕ} {name : ℕ} → ChangesName old new name None None
     → Leaves old new (gone (held old) name)
-leaves_gone {old} {new} {name} ch = record { map = held_updated old new name None None ch;
-    frame = ch.frame; still = still_others ch (inr refl) }
+leaves_gone {old} {new} {name} ch = record { map = held_updated old new name None None ch; frame = ch.frame; still = still_others ch (inr refl) }
 
 pub gone_moves_nothing : {old new : List ℕ} {name : ℕ} → ChangesName old new name None None
     → MovesNothing old new
@@ -154,8 +153,7 @@ pub record IsUsable (memory : Memory) (name : ℕ) (found : Found) : Type 0 wher
 
 pub usable : {region value : Memory} {name : ℕ} {found : Found} → region ≡ value → HoldsHeap region
     → StandsAs value.bytes name found → IsHere value name → IsUsable region name found
-usable view h s here = record { heap = h; is = found_viewed view s; movable = s.movable;
-    here = here_inside view h here }
+usable view h s here = record { heap = h; is = found_viewed view s; movable = s.movable; here = here_inside view h here }
 
 -- a part of it is written
 pub record IsWritten (old new : Memory) (name : ℕ) (found : Found) (at : ℕ) (part : List ℕ) : Type 0 where

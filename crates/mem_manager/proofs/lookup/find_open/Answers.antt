@@ -23,5 +23,4 @@ pub check_here-requires : goal.check_here-requires
 check_here-requires c = record { found = one_of c.in_ok-found.ensures.found }
 
 pub returns-clause-may_write : goal.returns-clause-may_write
-returns-clause-may_write c = record { owned = c.in_ok-found.ensures.callers;
-    locked = c.in_ok-check_locked.ensures.ok; other = c.in_ok-check_here.ensures.ok }
+returns-clause-may_write c = record { owned = c.in_ok-found.ensures.callers; locked = c.in_ok-check_locked.ensures.ok; other = c.in_ok-check_here.ensures.ok }
