@@ -1,5 +1,5 @@
 -- A movable chunk moves down over the free chunk before it, and a free chunk is joined with it.
-use Rattle.heap_compact.proofs.Words.{◌≡◌, ◌≢◌, ℕ, zero, suc, ◌+◌, ◌-◌, ◌^◌, ◌<◌, ◌≤◌, List, [], ◌∷◌, ◌++◌, length, take, drop, refl, sym, ap, subst, ◌∙◌, append_assoc, arith, inl, inr, length-take, length-drop, cases_eq, ◌↔◌, u32_at, u32_bytes, overwritten, Chunk, free, movable, need, size_of, slot_named, total, IsFree, IsLive, Spelled, SpelledAll, IsSlot, area_start, TablesLie, BodyHere, IsBody, IsHeap, HeapAccepted, chunks_of, gap, HasHeader, Reslots, with_slot_at, BecomesExactly, IsDroppable, MovesDown, KeepsFree, Before, u32_at-written, total-append, Spelled-same, SpelledAll-split, IsBody-low, IsBody-high, AnyPlaced-mid, AnyPlaced-split, AnyPlaced-left, AnyPlaced-right, SlotFacts, slot_facts, free_hold_none, IsBeside, slot_beside, replaced_heap, kept_directory, WroteWithin, wrote_part, wrote_word, wrote_wider, wrote_then, wrote_none, wrote_apart, WroteArea, area_replaces, wrote_slots, area_slots, beside_same, beside_word, table_kept, chunks_of-tiled, free_plain, replaced_plain, Carries, Carries-within, slid_down, heap_in_parts, Middle, middle_of, gap_free, gap_total, has_free, keeps_replaced, outside_apart}
+use Rattle.heap_compact.proofs.Words.{◌≡◌, ◌≢◌, ℕ, zero, suc, ◌+◌, ◌-◌, ◌^◌, ◌<◌, ◌≤◌, List, [], ◌∷◌, ◌++◌, length, take, drop, refl, sym, ap, subst, ◌∙◌, append_assoc, arith, inl, inr, length-take, length-drop, cases_eq, ◌↔◌, u32_at, u32_bytes, overwritten, Chunk, free, movable, need, size_of, slot_named, total, IsFree, Spelled, SpelledAll, IsSlot, area_start, TablesLie, BodyHere, IsBody, IsHeap, HeapAccepted, chunks_of, gap, HasHeader, Reslots, with_slot_at, BecomesExactly, IsDroppable, MovesDown, KeepsFree, Before, u32_at-written, total-append, Spelled-same, SpelledAll-split, IsBody-low, IsBody-high, AnyPlaced-mid, AnyPlaced-split, AnyPlaced-left, AnyPlaced-right, SlotFacts, slot_facts, free_hold_none, IsBeside, slot_beside, replaced_heap, kept_directory, WroteWithin, wrote_part, wrote_word, wrote_wider, wrote_then, wrote_none, wrote_apart, WroteArea, area_replaces, wrote_slots, area_slots, beside_same, beside_word, table_kept, chunks_of-tiled, free_plain, replaced_plain, Carries, Carries-within, slid_down, heap_in_parts, Middle, middle_of, gap_free, gap_total, has_free, keeps_replaced, outside_apart}
 use Rattle.laws_heap.proofs.FreeChunks.{free_replaced}
 use Rattle.chunk_format.specs.declared.header.Header.TheVariants as headers
 use Rattle.heap_compact.proofs.CarriedLaws.{IsLive-carried_down}
@@ -23,17 +23,16 @@ pub record DropFacts {old : List ℕ} {at room size slot : ℕ} (d : IsDroppable
   pub beside : IsBeside slot to (to + total (free room ∷ movable d.bytes 0 d.owner slot ∷ []))
   pub inside : to + room + need (length d.bytes) ≤ length old
 
-pub drop_facts : {old : List ℕ} {at room size slot : ℕ} (to : ℕ) → HeapAccepted old → (d : IsDroppable old at room size slot) → to ≡ at - room → DropFacts d to
-drop_facts {old} {at} {room} {size} {slot} to h d e =
-    let c : Chunk = movable d.bytes 0 d.owner slot in
-    let heap = heap_in_parts _ _ h d.chunks in
+pub drop_facts : {old : List ℕ} {at room size slot : ℕ} (to : ℕ) → HeapAccepted old
+    → (d : IsDroppable old at room size slot) → to ≡ at - room → DropFacts d to
+drop_facts {old} {at} {room} {slot} to h d e =
+    let c : Chunk = movable d.bytes 0 d.owner slot in let heap = heap_in_parts _ _ h d.chunks in
     let to_is : to ≡ area_start old + total d.before = omega (arith, d.there, e) in
     let at_is : at ≡ to + room = omega (arith, d.there, e) in
     let m = middle_of _ d.before (free room ∷ c ∷ []) d.after _ heap to_is in
     let here : IsBody (area_start old) (d.before ++ free room ∷ c ∷ d.after) slot (at + 8) =
-    AnyPlaced-right (BodyHere slot (at + 8)) _ d.before _ (inr (inl (refl, omega (arith, d.there)))) in
-    let tied = (heap.tied slot (at + 8) (omega arith)).1 here in
-    record {
+    AnyPlaced-right _ _ d.before _ (inr (inl (refl, omega (arith, d.there)))) in
+    let tied = (heap.tied slot (at + 8) (omega arith)).1 here in record {
       accepted = h;
       heap = heap;
       middle = m;
@@ -64,50 +63,54 @@ module _ {old : List ℕ} {at room size slot to : ℕ} {d : IsDroppable old at r
   -- the ties, where it is down
   module _ (new : List ℕ) (own : u32_at new slot ≡ to + 8) (others : (other : ℕ) → IsSlot old other → other ≢ slot → u32_at new other ≡ u32_at old other) where
     -- what was elsewhere is held by another slot
-    elsewhere : (name place : ℕ) → 0 < place → IsBody (area_start old) was name place → place ≢ at + 8 → IsSlot old name × (u32_at new name ≡ place)
+    elsewhere : (name place : ℕ) → 0 < place → IsBody (area_start old) was name place
+        → place ≢ at + 8 → IsSlot old name × (u32_at new name ≡ place)
     elsewhere name place some b apart =
         let s = (f.heap.tied name place some).1 b in
         let isnt : name ≢ slot = λ same. apart (sym s.1 ∙ ap (u32_at old) same ∙ f.held) in
         (s.0, others name s.0 isnt ∙ s.1)
 
     -- the other chunks are where they were
-    still : (name place : ℕ) → name ≢ slot → IsBody (area_start old) was name place → IsBody (area_start old) is name place
-    still name place isnt b = elim (AnyPlaced-split (BodyHere name place) (area_start old) d.before (free room ∷ c ∷ d.after) b) [
-      | inl front ↦ AnyPlaced-left (BodyHere name place) (area_start old) d.before (c ∷ free room ∷ d.after) front
+    still : (name place : ℕ) → name ≢ slot → IsBody (area_start old) was name place
+        → IsBody (area_start old) is name place
+    still name place isnt b = elim (AnyPlaced-split _ (area_start old) d.before _ b) [
+      | inl front ↦ AnyPlaced-left (BodyHere name place) (area_start old) d.before _ front
       | inr rest ↦ elim rest [
         | inl none ↦ absurd none
         | inr more ↦ elim more [
           | inl mine ↦ absurd (isnt (sym mine.0))
           | inr behind ↦
               let e : area_start old + total d.before + room + size_of c ≡ area_start old + total d.before + size_of c + room = omega arith in
-              AnyPlaced-right (BodyHere name place) (area_start old) d.before (c ∷ free room ∷ d.after) (inr (inr (subst (λ (n : ℕ). IsBody n d.after name place) e behind)))
+              AnyPlaced-right _ (area_start old) d.before _ (inr (inr (rw e at behind)))
         ]
       ]
     ]
 
-    down_ties : (name place : ℕ) → 0 < place → ((IsSlot old name × (u32_at new name ≡ place)) ↔ IsBody (area_start old) is name place)
+    down_ties : (name place : ℕ) → 0 < place
+        → ((IsSlot old name × (u32_at new name ≡ place)) ↔ IsBody (area_start old) is name place)
     down_ties name place some = (forth, back) where
       forth : IsSlot old name × (u32_at new name ≡ place) → IsBody (area_start old) is name place
       forth s = elim (cases_eq name slot) [
         | inl same ↦
-            AnyPlaced-mid (BodyHere name place) (area_start old) d.before c (free room ∷ d.after) (sym same, omega (arith, f.to_is, own, ap (u32_at new) same, s.1))
-        | inr isnt ↦ still name place isnt ((f.heap.tied name place some).0 (s.0, sym (others name s.0 isnt) ∙ s.1))
+            AnyPlaced-mid _ _ _ c _ (sym same, omega (arith, f.to_is, own, ap (u32_at new) same, s.1))
+        | inr isnt ↦ still name _ isnt ((f.heap.tied name place some).0 (s.0, sym (others name s.0 isnt) ∙ s.1))
       ]
 
       back : IsBody (area_start old) is name place → IsSlot old name × (u32_at new name ≡ place)
-      back b = elim (AnyPlaced-split (BodyHere name place) (area_start old) d.before (c ∷ free room ∷ d.after) b) [
+      back b = elim (AnyPlaced-split _ _ _ _ b) [
         | inl front ↦
             let high = IsBody-high (area_start old) d.before name place front in
-            elsewhere name place some (AnyPlaced-left (BodyHere name place) (area_start old) d.before (free room ∷ c ∷ d.after) front) (λ e. omega (arith, high, f.to_is, f.at_is, e))
+            elsewhere name _ some (AnyPlaced-left _ _ _ _ front) (λ e. omega (arith, high, f.to_is, f.at_is, e))
         | inr rest ↦ elim rest [
           | inl mine ↦
-              (subst (λ (n : ℕ). IsSlot old n) mine.0 f.own, ap (u32_at new) (sym mine.0) ∙ own ∙ omega (arith, f.to_is, mine.1))
+              (rw mine.0 at f.own, ap (u32_at new) (sym mine.0) ∙ own ∙ omega (arith, f.to_is, mine.1))
           | inr more ↦ elim more [
             | inl none ↦ absurd none
             | inr behind ↦
-                let low = IsBody-low (area_start old + total d.before + size_of c + room) d.after name place behind in
+                let low = IsBody-low _ _ name _ behind in
                 let e : area_start old + total d.before + size_of c + room ≡ area_start old + total d.before + room + size_of c = omega arith in
-                elsewhere name place some (AnyPlaced-right (BodyHere name place) (area_start old) d.before (free room ∷ c ∷ d.after) (inr (inr (subst (λ (n : ℕ). IsBody n d.after name place) e behind)))) (λ e. omega (arith, low, f.to_is, f.at_is, e))
+                elsewhere name _ some (AnyPlaced-right _ _ d.before _ (inr (inr (rw e at behind))))
+                (λ e. omega (arith, low, f.to_is, f.at_is, e))
           ]
         ]
       ]
@@ -129,7 +132,7 @@ module _ {old : List ℕ} {at room size slot to : ℕ} {d : IsDroppable old at r
         wrote_wider _ _ _ _ to (to + 8) word (omega arith) (omega arith)
 
     hole_wrote : WroteWithin head hole (to + size) (to + size + 4)
-    hole_wrote = wrote_word head _ (to + size) (2 ^ 31 + room) hole_is (omega (arith, f.inside, d.takes, least, slid_wrote.len, head_wrote.len))
+    hole_wrote = wrote_word head _ _ _ hole_is (omega (arith, f.inside, d.takes, least, slid_wrote.len, head_wrote.len))
 
     len : length hole ≡ length old
     len = hole_wrote.len ∙ head_wrote.len ∙ slid_wrote.len
@@ -148,9 +151,9 @@ module _ {old : List ℕ} {at room size slot to : ℕ} {d : IsDroppable old at r
         let s : Spelled old at c = f.spelled in
         let part : ℕ → List ℕ = λ n. take (n + size - n) (drop n old) in
         let slid_2 : slid ≡ overwritten old to (part (to + room)) = slid_is ∙ ap (λ (n : ℕ). overwritten old to (part n)) f.at_is in
-        let down : Carries room to (to + size) slid old = subst (λ (xs : List ℕ). Carries room to (to + size) xs old) (sym slid_2) (slid_down old to room size (omega (arith, f.inside, d.takes))) in
-        let carry = Carries-within _ _ _ to (to + size_of c) _ _ down (omega arith) (omega (arith, d.takes)) in
-        let live = IsLive-carried_down carry (omega (arith, f.inside, slid_wrote.len)) (subst (λ (n : ℕ). IsLive old n d.bytes 0 d.owner s.0) f.at_is s.1) in
+        let down : Carries room to (to + size) slid old = rw (← slid_2) at (slid_down old to room size (omega (arith, f.inside, d.takes))) in
+        let carry = Carries-within _ _ _ to _ _ _ down (omega arith) (omega (arith, d.takes)) in
+        let live = IsLive-carried_down carry (omega (arith, f.inside, slid_wrote.len)) (rw f.at_is at s.1) in
         reslots d.bytes 0 d.owner (slot_named to s.0) (s.0, live, s.2, s.3, refl)
 
     dropped : {new : List ℕ} → Reslots slid head to slot → HasHeader hole (to + size) (headers.Free room) → new ≡ overwritten hole slot (u32_bytes (to + 8))
@@ -162,8 +165,9 @@ module _ {old : List ℕ} {at room size slot to : ℕ} {d : IsDroppable old at r
         let c_new = Spelled-same hole new to c (beside_same _ _ _ to end to (to + size_of c) four f.beside (omega arith) (omega arith) (omega (arith, f.inside, len))) four.len c_hole in
         let f_hole : IsFree hole (to + size) room = has_free _ _ _ rest in
         let f_new = Spelled-same hole new (to + size) (free room) (beside_same _ _ _ to end (to + size) (to + size + room) four f.beside (omega arith) (omega (arith, d.takes)) (omega (arith, f.inside, d.takes, len))) four.len f_hole in
-        let spelled : SpelledAll new to (c ∷ free room ∷ []) end = (c_new, (subst (λ (n : ℕ). Spelled new (to + n) (free room)) d.takes f_new, omega arith)) in
-        let r = area_replaces _ _ d.before (free room ∷ c ∷ []) (c ∷ free room ∷ []) d.after _ f.heap.tiles tt f.to_is f.middle.inside w spelled in
+        let spelled : SpelledAll new to (c ∷ free room ∷ []) end = (c_new, (rw d.takes at f_new, omega arith)) in
+        let r = area_replaces _ _ d.before (free room ∷ c ∷ [])
+        (c ∷ free room ∷ []) d.after _ f.heap.tiles tt f.to_is f.middle.inside w spelled in
         let others : (other : ℕ) → IsSlot old other → other ≢ slot → u32_at new other ≡ u32_at old other =
         λ other o ne. area_slots _ _ d.before (free room ∷ c ∷ []) d.after _ _ f.heap.tiles tt f.to_is w o (λ e. ne (sym e)) in
         let own : u32_at new slot ≡ to + 8 = ap (λ (bs : List ℕ). u32_at bs slot) new_is ∙ u32_at-written (to + 8) slot hole (omega (arith, f.facts.inside, len)) (omega (arith, f.inside, f.middle.most)) in
@@ -176,7 +180,7 @@ module _ {old : List ℕ} {at room size slot to : ℕ} {d : IsDroppable old at r
         ∙ ap (λ (bs : List ℕ). u32_at bs (to + size)) hole_is ∙ u32_at-written (2 ^ 31 + room) (to + size) head (omega (arith, f.inside, d.takes, least, slid_wrote.len, head_wrote.len)) (omega (arith, f.inside, f.middle.most)) in
         let plain = replaced_plain _ _ _ _ _ _ _ (chunks_of-tiled _ _ f.heap.tiles) heap r (λ there h. elim h [
           | inl none ↦ absurd none
-          | inr more ↦ free_plain new (to + size_of c) room [] (subst (λ (n : ℕ). u32_at new (to + n) ≡ 2 ^ 31 + room) d.takes at_hole) (omega (arith, f.inside, f.middle.most)) (λ there none. absurd none) there more
+          | inr more ↦ free_plain new (to + size_of c) room [] (rw d.takes at at_hole) (omega (arith, f.inside, f.middle.most)) (λ there none. absurd none) there more
         ]) in (
           exactly_heap r.head heap plain,
           λ there low b. keeps_replaced _ _ _ _ _ _ _ f.accepted (chunks_of-tiled _ _ f.heap.tiles) heap r there (outside_apart _ d.before (free room ∷ c ∷ []) d.after _ there f.heap f.to_is (inl low)) b,
@@ -184,7 +188,8 @@ module _ {old : List ℕ} {at room size slot to : ℕ} {d : IsDroppable old at r
 
 -- every such chunk goes down
 pub all_dropped : {old slid head hole new : List ℕ} {at room size slot : ℕ} → HeapAccepted old → slid ≡ overwritten old (at - room) (take (at + size - at) (drop at old)) → head ≡ with_slot_at slid (at - room) slot → hole ≡ overwritten head (at - room + size) (u32_bytes (2 ^ 31 + room))
-    → Reslots slid head (at - room) slot → HasHeader hole (at - room + size) (headers.Free room) → new ≡ overwritten hole slot (u32_bytes (at - room + 8))
+    → Reslots slid head (at - room) slot → HasHeader hole (at - room + size) (headers.Free room)
+    → new ≡ overwritten hole slot (u32_bytes (at - room + 8))
     → MovesDown old new at room size slot × ((d : IsDroppable old at room size slot) → KeepsFree (Before (at - room)) old new)
 all_dropped h slid_is head_is hole_is reslots rest new_is = (
   λ d. (dropped (drop_facts _ h d refl) slid_is head_is hole_is reslots rest new_is).0,
@@ -210,14 +215,13 @@ pub record JoinFacts (old : List ℕ) (before : List Chunk) (size : ℕ) (after 
 
 pub join_facts : {old : List ℕ} (before : List Chunk) (size : ℕ) (after : List Chunk) {at : ℕ} (room to : ℕ) → HeapAccepted old → chunks_of old ≡ before ++ (gap room ++ free size ∷ after) → at ≡ area_start old + total before + room → to ≡ at - room → JoinFacts old before size after at room to
 join_facts {old} before size after {at} room to h chunks there e =
-    let heap = heap_in_parts _ _ h (chunks ∙ ap (λ (cs : List Chunk). before ++ cs) (sym (append_assoc (gap room) (free size ∷ []) after))) in
+    let heap = heap_in_parts _ _ h (chunks ∙ ap (λ cs. before ++ cs) (sym (append_assoc (gap room) (free size ∷ []) after))) in
     let to_is : to ≡ area_start old + total before = omega (arith, there, e) in
     let m = middle_of _ before (gap room ++ free size ∷ []) after _ heap to_is in
-    let a = total-append (gap room) (free size ∷ []) in
-    let b = gap_total room in
-    let parts = SpelledAll-split old to (gap room) (free size ∷ []) (to + total (gap room ++ free size ∷ [])) m.spelled in
+    let a = total-append (gap room) (free size ∷ []) in let b = gap_total room in
+    let parts = SpelledAll-split old to (gap room) (free size ∷ []) _ m.spelled in
     let here : to + total (gap room) ≡ at = omega (arith, b, there, e) in
-    record { accepted = h; heap = heap; middle = m; sizes = omega (arith, a, b); to_is = to_is; is_free = subst (λ (n : ℕ). IsFree old n size) here parts.1.0 }
+    record { accepted = h; heap = heap; middle = m; sizes = omega (arith, a, b); to_is = to_is; is_free = rw here at parts.1.0 }
 
 pub joined : {old new : List ℕ} {before : List Chunk} {size : ℕ} {after : List Chunk} {at room to : ℕ} → JoinFacts old before size after at room to → new ≡ overwritten old to (u32_bytes (2 ^ 31 + (room + size))) → HasHeader new to (headers.Free (room + size))
     → BecomesExactly old new (before ++ (gap (room + size) ++ after)) × KeepsFree (Before to) old new
@@ -233,7 +237,7 @@ joined {old} {new} {before} {size} {after} {room} {to} f is header =
     let slots = wrote_slots _ _ before mid after _ f.heap.tiles none f.to_is all in
     let heap = free_replaced _ _ _ _ _ _ _ f.heap r slots (free_push (gap room) size (gap_free room)) tt in
     let g = sym (gap_some (room + size) (omega (arith, least))) in
-    let written : u32_at new to ≡ 2 ^ 31 + (room + size) = ap (λ (bs : List ℕ). u32_at bs to) is ∙ u32_at-written (2 ^ 31 + (room + size)) to old (omega (arith, f.middle.inside, f.sizes, least)) (omega (arith, f.middle.inside, f.sizes, f.middle.most)) in
+    let written = ap (λ bs. u32_at bs to) is ∙ u32_at-written (2 ^ 31 + (room + size)) to old (omega (arith, f.middle.inside, f.sizes, least)) (omega (arith, f.middle.inside, f.sizes, f.middle.most)) in
     let plain = replaced_plain _ _ _ _ _ _ _ (chunks_of-tiled _ _ f.heap.tiles) heap r (free_plain new to (room + size) [] written (omega (arith, f.middle.inside, f.sizes, f.middle.most)) (λ there none. absurd none)) in
     let exact = exactly_heap r.head heap plain in
     let was : chunks_of old ≡ before ++ (mid ++ after) = chunks_of-tiled _ _ f.heap.tiles in (

@@ -21,3 +21,4 @@ pub mod SeenLaws
 pub mod SpaceWrites
 pub mod StretchLaws
 pub mod StretchRoomLaws
+pub mod Laws

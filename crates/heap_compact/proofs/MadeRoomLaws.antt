@@ -14,5 +14,6 @@ slides_nothing image h = record {
   becomes = record { frame = same_frame _ h; layout = refl };
 }
 
-pub moves_none : (image : List ℕ) (slid : ℕ) → HeapAccepted image → slid ≡ slid + moved_bytes image image
+pub moves_none : (image : List ℕ) (slid : ℕ) → HeapAccepted image
+    → slid ≡ slid + moved_bytes image image
 moves_none image slid h = let moved = unmoved_bytes _ h in omega (arith, moved)

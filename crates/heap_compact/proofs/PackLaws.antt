@@ -23,7 +23,8 @@ moved_none size none = ap (λ (k : ℕ). cond {A = ℕ} (k == 0) 0 size) none
 
 loose_named : (c : Chunk) {slot : ℕ} → (HeaderStays (header_of c) → ⊥) → slot_by (header_of c) ≡ Some slot → (bytes : List ℕ) × (owner : ℕ) × (c ≡ movable bytes 0 owner slot)
 loose_named (free n) goes e = absurd cc
-loose_named (movable bytes zero owner named) {slot} goes e = let same : named ≡ slot = cc in (bytes, owner, ap (λ (n : ℕ). movable bytes 0 owner n) same)
+loose_named (movable bytes zero owner named) {slot} goes e =
+    let same : named ≡ slot = cc in (bytes, owner, ap (λ n. movable bytes 0 owner n) same)
 loose_named (movable bytes (suc count) owner named) goes e = absurd (goes (omega arith))
 loose_named (fixed bytes owner) goes e = absurd (goes tt)
 
@@ -33,14 +34,16 @@ some_slot (headers.Movable length lock owner slot) some = (slot, refl)
 some_slot (headers.Fixed length owner) some = absurd cc
 
 -- a chunk that doesn't stay and isn't free names a slot
-pub slot_there : (header : Header) → IsNotFree header → (HeaderStays header → ⊥) → IsSome (slot_by header)
+pub slot_there : (header : Header) → IsNotFree header → (HeaderStays header → ⊥)
+    → IsSome (slot_by header)
 slot_there (headers.Free size) isnt goes = absurd (isnt size refl)
 slot_there (headers.Movable length lock owner slot) isnt goes = refl
 slot_there (headers.Fixed length owner) isnt goes = absurd (goes tt)
 
-staying_one : (c : Chunk) {header : Header} → header ≡ header_of c → HeaderStays header → (room : ℕ) → (packed_one room c ≡ gap room ++ c ∷ []) × ((moved_one room c ≡ 0) × (room_after room c ≡ 0))
+staying_one : (c : Chunk) {header : Header} → header ≡ header_of c → HeaderStays header → (room : ℕ)
+    → (packed_one room c ≡ gap room ++ c ∷ []) × ((moved_one room c ≡ 0) × (room_after room c ≡ 0))
 staying_one (free n) e stay room = absurd (subst HeaderStays e stay)
-staying_one (movable bytes zero owner slot) e stay room = let k : 0 < 0 = subst HeaderStays e stay in absurd (omega (arith, k))
+staying_one (movable bytes zero owner slot) e stay room = let k = subst HeaderStays e stay in absurd (omega (arith, k))
 staying_one (movable bytes (suc count) owner slot) e stay room = (refl, (refl, refl))
 staying_one (fixed bytes owner) e stay room = (refl, (refl, refl))
 
@@ -48,8 +51,8 @@ staying_one (fixed bytes owner) e stay room = (refl, (refl, refl))
 
 -- it is packed, once its kind is known
 packed_as : {old new : List ℕ} {at room : ℕ} (b : IsBehindRoom old at room) (c : Chunk) {size moved room_then : ℕ} → b.chunk ≡ c → BecomesExactly old new (b.before ++ (packed_one room c ++ b.after)) → size ≡ size_of c → moved ≡ moved_one room c → room_then ≡ room_after room c → PackedOne b new size moved room_then
-packed_as {old} {new} {room} b c e becomes size_is moved_is room_is = record {
-  becomes = subst (λ (d : Chunk). BecomesExactly old new (b.before ++ (packed_one room d ++ b.after))) (sym e) becomes;
+packed_as {room} b c e becomes size_is moved_is room_is = record {
+  becomes = rw (← e) at becomes;
   size_is = size_is ∙ ap size_of (sym e);
   moved_is = moved_is ∙ ap (moved_one room) (sym e);
   room_is = room_is ∙ ap (room_after room) (sym e);
@@ -59,8 +62,8 @@ module _ {old : List ℕ} {at room : ℕ} (h : HeapAccepted old) (b : IsBehindRo
   pub behind_spelled : Spelled old at b.chunk
   behind_spelled =
       let heap = heap_in_parts _ _ h b.chunks in
-      let one = SpelledAll-split old (area_start old) b.before (gap room ++ b.chunk ∷ b.after) (length old) heap.tiles.area in
-      let two = SpelledAll-split old (area_start old + total b.before) (gap room) (b.chunk ∷ b.after) (length old) one.1 in
+      let one = SpelledAll-split old (area_start old) b.before _ (length old) heap.tiles.area in
+      let two = SpelledAll-split old _ (gap room) (b.chunk ∷ b.after) (length old) one.1 in
       subst (λ (n : ℕ). Spelled old n b.chunk) (omega (arith, b.there, gap_total room)) two.1.0
 
   behind_header : {header : Header} → HasHeader old at header → header ≡ header_of b.chunk
@@ -77,12 +80,11 @@ module _ {old : List ℕ} {at room : ℕ} (h : HeapAccepted old) (b : IsBehindRo
     is_free = free_header n b.chunk (behind_header found) ∙ ap free (sym e)
 
     joins : JoinFacts old b.before size b.after at room (at - room)
-    joins = join_facts b.before size b.after room (at - room) h (with_chunk (free size) is_free) b.there refl
+    joins = join_facts _ size _ room _ h (with_chunk _ is_free) b.there refl
 
     pub join_writable : IsWritableHeader (at - room) (headers.Free (room + size))
     join_writable =
-        let f = joins in
-        let least : 8 ≤ size = f.is_free.header_fits in
+        let f = joins in let least : 8 ≤ size = f.is_free.header_fits in
         (omega (arith, least), omega (arith, f.middle.whole, f.sizes), omega (arith, f.middle.inside, f.middle.most, f.sizes))
 
     module _ {new : List ℕ} (is : new ≡ overwritten old (at - room) (u32_bytes (2 ^ 31 + (room + size)))) (written : HasHeader new (at - room) (headers.Free (room + size))) where
@@ -94,9 +96,9 @@ module _ {old : List ℕ} {at room : ℕ} (h : HeapAccepted old) (b : IsBehindRo
 
   -- ---- one that names a slot and has no lock
 
-  module _ {header : Header} {slot size : ℕ} (found : HasHeader old at header) (goes : HeaderStays header → ⊥) (names : slot_by header ≡ Some slot) (size_is : size ≡ size_by header) where
+  module _ {header : _} {slot size : ℕ} (found : HasHeader old at header) (goes : HeaderStays header → ⊥) (names : slot_by header ≡ Some slot) (size_is : size ≡ size_by header) where
     pub loose : (bytes : List ℕ) × (owner : ℕ) × (b.chunk ≡ movable bytes 0 owner slot)
-    loose = let e = behind_header found in loose_named b.chunk (subst (λ (x : Header). HeaderStays x → ⊥) e goes) (sym (ap slot_by e) ∙ names)
+    loose = let e = behind_header found in loose_named _ (rw e at goes) (sym (ap slot_by e) ∙ names)
 
     abbrev v : Chunk
     v = movable loose.0 0 loose.1 slot
@@ -115,7 +117,8 @@ module _ {old : List ℕ} {at room : ℕ} (h : HeapAccepted old) (b : IsBehindRo
       takes = takes;
     }
 
-    pub packed_movable : {new : List ℕ} → 0 < room → MovesDown old new at room size slot → PackedOne b new size size room
+    pub packed_movable : {new : List ℕ} → 0 < room → MovesDown old new at room size slot
+        → PackedOne b new size size room
     packed_movable {new} some down =
         packed_as b v loose.2 (subst (λ (g : List Chunk). BecomesExactly old new (b.before ++ v ∷ (g ++ b.after))) (sym (gap_some room some)) (down (droppable some)))
         takes (takes ∙ sym (moved_some room (size_of v) some)) refl
@@ -123,24 +126,26 @@ module _ {old : List ℕ} {at room : ℕ} (h : HeapAccepted old) (b : IsBehindRo
   -- ---- one that stays where it is
 
   -- it may not move
-  staying : {header : Header} {size : ℕ} → HasHeader old at header → HeaderStays header → size ≡ size_by header → PackedOne b old size 0 0
+  staying : {header : Header} {size : ℕ} → HasHeader old at header → HeaderStays header
+      → size ≡ size_by header → PackedOne b old size 0 0
   staying found stay size_is =
-      let e = behind_header found in
-      let s = staying_one b.chunk e stay room in
+      let e = behind_header found in let s = staying_one b.chunk e stay room in
       let chunks = b.chunks ∙ ap (λ (cs : List Chunk). b.before ++ cs) (sym (append_assoc (gap room) (b.chunk ∷ []) b.after)) ∙ ap (λ (cs : List Chunk). b.before ++ (cs ++ b.after)) (sym s.0) in
       packed_as b b.chunk refl (exactly_itself h chunks) (size_is ∙ ap size_by e ∙ size_by-header_of b.chunk) (sym s.1.0) (sym s.1.1)
 
   -- it has no room in front of it
-  without_room : {header : Header} {size : ℕ} → HasHeader old at header → IsNotFree header → (HeaderStays header → ⊥) → size ≡ size_by header → room ≡ 0 → PackedOne b old size 0 0
+  without_room : {header : Header} {size : ℕ} → HasHeader old at header → IsNotFree header
+      → (HeaderStays header → ⊥) → size ≡ size_by header → room ≡ 0 → PackedOne b old size 0 0
   without_room {header} found isnt goes size_is none =
       let named = some_slot header (slot_there header isnt goes) in
-      let l = loose found goes named.1 size_is in
-      let w : Chunk = movable l.0 0 l.1 named.0 in
+      let l = loose found goes named.1 size_is in let w : Chunk = movable l.0 0 l.1 named.0 in
       let g = gap_none none in
-      let chunks = with_chunk w l.2 ∙ ap (λ (k : List Chunk). b.before ++ (k ++ w ∷ b.after)) g ∙ ap (λ (k : List Chunk). b.before ++ w ∷ (k ++ b.after)) (sym g) in
-      packed_as b w l.2 (exactly_itself h chunks) (takes found goes named.1 size_is) (sym (moved_none (size_of w) none)) (sym none)
+      let chunks = with_chunk w l.2 ∙ ap (λ (k : List Chunk). b.before ++ (k ++ w ∷ b.after)) g
+      ∙ ap (λ (k : List Chunk). b.before ++ w ∷ (k ++ b.after)) (sym g) in
+      packed_as b w l.2 (exactly_itself h chunks) (takes found goes named.1 size_is) (sym (moved_none _ none)) (sym none)
 
-  pub packed_kept : {header : Header} {size : ℕ} → HasHeader old at header → IsNotFree header → size ≡ size_by header
+  pub packed_kept : {header : Header} {size : ℕ} → HasHeader old at header → IsNotFree header
+      → size ≡ size_by header
       → HeaderStays header ⊎ ((HeaderStays header → ⊥) × (room ≡ 0)) → PackedOne b old size 0 0
   packed_kept found isnt size_is why = elim why [
     | inl stay ↦ staying found stay size_is
@@ -148,11 +153,12 @@ module _ {old : List ℕ} {at room : ℕ} (h : HeapAccepted old) (b : IsBehindRo
   ]
 
 -- the room in front of it
-pub room_in_front : {image : List ℕ} {at room : ℕ} → IsBehindRoom image at room → (room ≤ at) × (0 < room → IsFreeChunk image (at - room) room)
+pub room_in_front : {image : List ℕ} {at room : ℕ} → IsBehindRoom image at room
+    → (room ≤ at) × (0 < room → IsFreeChunk image (at - room) room)
 room_in_front {room} b =
     let there = b.there in (
       omega (arith, there),
-      λ some. record { before = b.before; after = b.chunk ∷ b.after; chunks = b.chunks ∙ ap (λ (g : List Chunk). b.before ++ (g ++ b.chunk ∷ b.after)) (gap_some room some); there = omega (arith, there) },
+      λ some. record { before = b.before; after = _ ∷ b.after; chunks = b.chunks ∙ ap (λ g. b.before ++ (g ++ b.chunk ∷ b.after)) (gap_some room some); there = omega (arith, there) },
     )
 
 -- and then links were written
@@ -162,9 +168,10 @@ kept_linked p s =
 
 -- ---- all of them
 
-pub packing_start : {old : List ℕ} (start end : ℕ) → HeapAccepted old → PacksUpTo old old start end start 0 0
+pub packing_start : {old : List ℕ} (start end : ℕ) → HeapAccepted old
+    → PacksUpTo old old start end start 0 0
 packing_start start end h = λ run.
-    record { done = []; rest = run.mid; becomes = exactly_itself h run.chunks; packs = refl; there = omega arith; ends = run.to; moved_is = omega arith; room_is = refl }
+    record { done = []; rest = _; becomes = exactly_itself h run.chunks; packs = refl; there = omega arith; ends = run.to; moved_is = omega arith; room_is = refl }
 
 -- after a chunk that is packed: what is packed and what is left of the chunks
 record Behind {old : List ℕ} {start end : ℕ} (run : IsRun old start end) (new : List ℕ) (at moved room : ℕ) (done : List Chunk) (c : Chunk) (rest : List Chunk) (size more room_then : ℕ) : Type 0 where
@@ -180,21 +187,21 @@ record Behind {old : List ℕ} {start end : ℕ} (run : IsRun old start end) (ne
 
 module _ {old : List ℕ} {start end : ℕ} {run : IsRun old start end} {new : List ℕ} {at moved room : ℕ} {done : List Chunk} where
   -- it stays
-  stayed : {c : Chunk} {rest : List Chunk} {size more room_then : ℕ} → Behind run new at moved room done c rest size more room_then
+  stayed : {c : Chunk} {rest : List Chunk} {size more room_then : ℕ}
+      → Behind run new at moved room done c rest size more room_then
       → packed_one room c ≡ gap room ++ c ∷ [] → packed_behind room (c ∷ rest) ≡ gap room ++ c ∷ packed_behind 0 rest → moved_behind room (c ∷ rest) ≡ moved_behind 0 rest → last_room room (c ∷ rest) ≡ last_room 0 rest → moved_one room c ≡ 0 → room_after room c ≡ 0
       → Packing run new (at + size) (moved + more) room_then
   stayed {c} {rest} {room_then} b one packs moves rooms none_moved none =
-      let behind : List Chunk = gap room ++ c ∷ [] in
-      let two = total-append (gap room) (c ∷ []) in
+      let behind : List Chunk = gap room ++ c ∷ [] in let two = total-append (gap room) (c ∷ []) in
       let no_room : room_then ≡ 0 = b.room_is ∙ none in
       let same = ap (λ (k : ℕ). moved_behind k rest) no_room in
       let left : BecomesExactly old new (run.before ++ (done ++ (behind ++ (gap room_then ++ (rest ++ run.after))))) =
-      subst (λ (k : ℕ). BecomesExactly old new (run.before ++ (done ++ (behind ++ (gap k ++ (rest ++ run.after)))))) (sym no_room) (subst (λ (cs : List Chunk). BecomesExactly old new (run.before ++ (done ++ (cs ++ (rest ++ run.after))))) one b.becomes) in
+      subst (λ (k : ℕ). BecomesExactly old new (run.before ++ (done ++ (behind ++ (gap k ++ (rest ++ run.after)))))) (sym no_room) (rw one at b.becomes) in
       record {
         done = done ++ behind;
         rest = rest;
-        becomes = subst (λ (cs : List Chunk). BecomesExactly old new (run.before ++ cs)) (sym (append_assoc done behind (gap room_then ++ (rest ++ run.after)))) left;
-        packs = ap (λ (k : ℕ). (done ++ behind) ++ packed_behind k rest) no_room ∙ append_assoc done behind (packed_behind 0 rest) ∙ ap (λ (cs : List Chunk). done ++ cs) (append_assoc (gap room) (c ∷ []) (packed_behind 0 rest) ∙ sym packs) ∙ b.packs;
+        becomes = rw (← (append_assoc done behind (gap room_then ++ (rest ++ run.after)))) at left;
+        packs = ap (λ (k : ℕ). (done ++ behind) ++ packed_behind k rest) no_room ∙ append_assoc done _ (packed_behind 0 rest) ∙ ap (λ (cs : List Chunk). done ++ cs) (append_assoc (gap room) (c ∷ []) (packed_behind 0 rest) ∙ sym packs) ∙ b.packs;
         there = omega (arith, b.there, b.size_is, no_room, total-append done behind, two, gap_total room);
         ends = omega (arith, b.ends, b.size_is);
         moved_is = omega (arith, b.sum, moves, b.moved_is, none_moved, same);
@@ -204,11 +211,10 @@ module _ {old : List ℕ} {start end : ℕ} {run : IsRun old start end} {new : L
   -- one more is packed
   grown : (c : Chunk) {rest : List Chunk} {size more room_then : ℕ} → Behind run new at moved room done c rest size more room_then → Packing run new (at + size) (moved + more) room_then
   grown (free n) {rest} b =
-      let same = ap (λ (k : ℕ). moved_behind k rest) b.room_is in
-      record {
+      let same = ap (λ (k : ℕ). moved_behind k rest) b.room_is in record {
         done = done;
         rest = rest;
-        becomes = subst (λ (k : ℕ). BecomesExactly old new (run.before ++ (done ++ (gap k ++ (rest ++ run.after))))) (sym b.room_is) b.becomes;
+        becomes = rw (← b.room_is) at b.becomes;
         packs = ap (λ (k : ℕ). done ++ packed_behind k rest) b.room_is ∙ b.packs;
         there = omega (arith, b.there, b.size_is, b.room_is);
         ends = omega (arith, b.ends, b.size_is);
@@ -216,14 +222,12 @@ module _ {old : List ℕ} {start end : ℕ} {run : IsRun old start end} {new : L
         room_is = ap (λ (k : ℕ). last_room k rest) b.room_is ∙ b.rooms;
       }
   grown (movable bytes zero owner slot) {rest} {room_then} b =
-      let v : Chunk = movable bytes 0 owner slot in
-      let same : room_then ≡ room = b.room_is in
-      let rest_same = ap (λ (k : ℕ). moved_behind k rest) same in
-      record {
+      let v : Chunk = movable bytes 0 owner slot in let same : room_then ≡ room = b.room_is in
+      let rest_same = ap (λ (k : ℕ). moved_behind k rest) same in record {
         done = done ++ v ∷ [];
         rest = rest;
-        becomes = subst (λ (cs : List Chunk). BecomesExactly old new (run.before ++ cs)) (sym (append_assoc done (v ∷ []) (gap room_then ++ (rest ++ run.after)))) (subst (λ (k : ℕ). BecomesExactly old new (run.before ++ (done ++ v ∷ (gap k ++ (rest ++ run.after))))) (sym same) b.becomes);
-        packs = append_assoc done (v ∷ []) (packed_behind room_then rest) ∙ ap (λ (k : ℕ). done ++ v ∷ packed_behind k rest) same ∙ b.packs;
+        becomes = rw (← (append_assoc done (v ∷ []) (gap room_then ++ (rest ++ run.after)))) at (rw (← same) at b.becomes);
+        packs = append_assoc done _ (packed_behind room_then rest) ∙ ap (λ (k : ℕ). done ++ v ∷ packed_behind k rest) same ∙ b.packs;
         there = omega (arith, b.there, b.size_is, same, total-append done (v ∷ []));
         ends = omega (arith, b.ends, b.size_is);
         moved_is = omega (arith, b.sum, b.moved_is, rest_same);
@@ -241,7 +245,8 @@ pub record AllPacked {old : List ℕ} {start end : ℕ} (run : IsRun old start e
 
 module _ {old image : List ℕ} {start end : ℕ} {run : IsRun old start end} {at moved room : ℕ} (k : Packing run image at moved room) where
   -- the next chunk, after the room
-  abbrev next_behind : (c : Chunk) (rest : List Chunk) → k.rest ≡ c ∷ rest → IsBehindRoom image at room
+  abbrev next_behind : (c : Chunk) (rest : List Chunk) → k.rest ≡ c ∷ rest
+      → IsBehindRoom image at room
   next_behind c rest is = record {
     before = run.before ++ k.done;
     chunk = c;
@@ -256,7 +261,7 @@ module _ {old image : List ℕ} {start end : ℕ} {run : IsRun old start end} {a
       let one = p (next_behind c rest is) in
       let e = append_assoc run.before k.done (packed_one room c ++ (rest ++ run.after)) in
       grown c record {
-        becomes = exactly_then k.becomes (subst (λ (cs : List Chunk). BecomesExactly image new cs) e one.becomes);
+        becomes = exactly_then k.becomes (rw e at one.becomes);
         packs = ap (λ (cs : List Chunk). k.done ++ packed_behind room cs) (sym is) ∙ k.packs;
         there = k.there;
         ends = k.ends ∙ ap (λ (cs : List Chunk). at + total cs) is;
@@ -276,12 +281,12 @@ module _ {old image : List ℕ} {start end : ℕ} {run : IsRun old start end} {a
       let packs : k.done ++ gap room ≡ packed run.mid = ap (λ (cs : List Chunk). k.done ++ packed_behind room cs) (sym is) ∙ k.packs in
       let e : k.done ++ (gap room ++ run.after) ≡ packed run.mid ++ run.after = sym (append_assoc k.done (gap room) run.after) ∙ ap (λ (cs : List Chunk). cs ++ run.after) packs in
       record {
-        becomes = subst (λ (cs : List Chunk). BecomesExactly old image (run.before ++ cs)) e (subst (λ (cs : List Chunk). BecomesExactly old image (run.before ++ (k.done ++ (gap room ++ (cs ++ run.after))))) is k.becomes);
+        becomes = rw e at (rw is at k.becomes);
         moved_is = omega (arith, k.moved_is, ap (moved_behind room) is);
         room_is = ap (last_room room) (sym is) ∙ k.room_is;
       }
   all_packed (c ∷ rest) is past =
-      let least = (Spelled-size image at c (behind_spelled k.becomes.frame.accepted (next_behind c rest is))).0 in
+      let least = (Spelled-size _ at c (behind_spelled k.becomes.frame.accepted (next_behind c rest is))).0 in
       absurd (omega (arith, k.ends, ap total is, past, least))
 
 -- ---- for the calls
@@ -292,7 +297,8 @@ moved_low room size = elim (cases_eq room 0) [ inl none ↦ let e = moved_none s
 moved_few : (room : ℕ) (cs : List Chunk) → moved_behind room cs ≤ total cs
 moved_few room [] = omega arith
 moved_few room (free size ∷ cs) = let few = moved_few (room + size) cs in omega arith
-moved_few room (movable bytes zero owner slot ∷ cs) = let few = moved_few room cs in let low = moved_low room (need (length bytes)) in omega arith
+moved_few room (movable bytes zero owner slot ∷ cs) =
+    let few = moved_few room cs in let low = moved_low room (need (length bytes)) in omega arith
 moved_few room (movable bytes (suc count) owner slot ∷ cs) = let few = moved_few 0 cs in omega arith
 moved_few room (fixed bytes owner ∷ cs) = let few = moved_few 0 cs in omega arith
 
@@ -309,16 +315,17 @@ module _ {old image : List ℕ} {start end at moved room : ℕ} (w : PacksUpTo o
   pub packing_more : {new : List ℕ} {size more room_then : ℕ} → at < end → PacksOne image new at room size more room_then → PacksUpTo old new start end (at + size) (moved + more) room_then
   packing_more on p run = one_packed (w run) (w run).rest refl on p
 
-  pub packing_on : {new : List ℕ} {size more room_then : ℕ} → IsRun old start end → at < end → PacksOne image new at room size more room_then → GoesOn start end at moved size more
+  pub packing_on : {new : List ℕ} {size more room_then : ℕ} → IsRun old start end → at < end
+      → PacksOne image new at room size more room_then → GoesOn start end at moved size more
   packing_on run on p =
       let b = packing_next run on in
-      let least = (Spelled-size image at b.chunk (behind_spelled (w run).becomes.frame.accepted b)).0 in
-      let next = packing_more on p run in
-      let few = moved_few 0 run.mid in
+      let least = (Spelled-size _ at _ (behind_spelled (w run).becomes.frame.accepted b)).0 in
+      let next = packing_more on p run in let few = moved_few 0 run.mid in
       record { on = omega (arith, least, (p b).size_is); within = omega (arith, next.ends); few = omega (arith, next.moved_is, few, run.to) }
 
   -- the room after what is packed
-  pub room_packed : IsRun old start end → (room ≤ at) × (0 < room → IsFreeChunk image (at - room) room)
+  pub room_packed : IsRun old start end
+      → (room ≤ at) × (0 < room → IsFreeChunk image (at - room) room)
   room_packed run =
       let k = w run in (
         omega (arith, k.there),
@@ -335,30 +342,35 @@ module _ {old image : List ℕ} {start end at moved room : ℕ} (w : PacksUpTo o
 
 -- ---- all chunks of an image
 
-abbrev pub run_whole : {old : List ℕ} {start end : ℕ} → HeapAccepted old → start ≡ area_start old → end ≡ length old → IsRun old start end
+abbrev pub run_whole : {old : List ℕ} {start end : ℕ} → HeapAccepted old → start ≡ area_start old
+    → end ≡ length old → IsRun old start end
 run_whole {old} h from to =
     let heap = heap_of_read _ _ h.1 in
     let last = SpelledAll-end old (area_start old) (chunks_of old) (length old) heap.tiles.area in
     record { before = []; mid = chunks_of old; after = []; chunks = sym (append-nil (chunks_of old)); from = omega (arith, from); to = omega (arith, from, to, last) }
 
-pub compacted : {old new : List ℕ} {start end : ℕ} → HeapAccepted old → start ≡ area_start old → end ≡ length old → Packs old new start end → BecomesExactly old new (packed (chunks_of old))
+pub compacted : {old new : List ℕ} {start end : ℕ} → HeapAccepted old → start ≡ area_start old
+    → end ≡ length old → Packs old new start end → BecomesExactly old new (packed (chunks_of old))
 compacted {old} {new} h from to p =
-    subst (λ (cs : List Chunk). BecomesExactly old new cs) (append-nil (packed (chunks_of old))) (p (run_whole h from to))
+    subst (λ cs. BecomesExactly old new cs) (append-nil (packed (chunks_of old))) (p (run_whole h from to))
 
 -- the header after room misses what is lent
-pub behind_misses : {m : Memory} {at room : ℕ} → HoldsHeap m → IsBehindRoom m.bytes at room → Misses m.lents at 8
+pub behind_misses : {m : Memory} {at room : ℕ} → HoldsHeap m → IsBehindRoom m.bytes at room
+    → Misses m.lents at 8
 behind_misses {m} {at} {room} h b =
     let t = total-append b.before (gap room) in
-    header_misses m (b.before ++ gap room) b.chunk b.after at h.accepted h.lent (b.chunks ∙ sym (append_assoc b.before (gap room) (b.chunk ∷ b.after))) (omega (arith, b.there, t, gap_total room))
+    header_misses m _ _ _ at h.accepted h.lent (b.chunks ∙ sym (append_assoc b.before (gap room) (b.chunk ∷ b.after))) (omega (arith, b.there, t, gap_total room))
 
 gap_loose : (room n : ℕ) → NoneStays (gap room ++ free n ∷ [])
 gap_loose zero n = tt
 gap_loose (suc room) n = tt
 
-pub join_misses : {m : Memory} {at room n : ℕ} → HoldsHeap m → IsBehindRoom m.bytes at room → HasHeader m.bytes at (headers.Free n) → Misses m.lents (at - room) 8
+pub join_misses : {m : Memory} {at room n : ℕ} → HoldsHeap m → IsBehindRoom m.bytes at room
+    → HasHeader m.bytes at (headers.Free n) → Misses m.lents (at - room) 8
 join_misses {m} {at} {room} {n} h b found =
     let least : 8 ≤ n = (joins h.accepted b found refl).is_free.header_fits in
     let t = total-append (gap room) (free n ∷ []) in
-    let e = with_chunk h.accepted b (free n) (is_free h.accepted b found refl) ∙ ap (λ (cs : List Chunk). b.before ++ cs) (sym (append_assoc (gap room) (free n ∷ []) b.after)) in
-    let lent = loose_misses m b.before (gap room ++ free n ∷ []) b.after (at - room) h.lent e (omega (arith, b.there)) (gap_loose room n) in
-    part_misses m.lents (at - room) (total (gap room ++ free n ∷ [])) (at - room) 8 lent (omega arith) (omega (arith, t, least))
+    let e = with_chunk h.accepted b (free n) (is_free h.accepted b found refl)
+    ∙ ap (λ cs. b.before ++ cs) (sym (append_assoc (gap room) (free n ∷ []) b.after)) in
+    let lent = loose_misses m _ _ b.after _ h.lent e (omega (arith, b.there)) (gap_loose room n) in
+    part_misses m.lents (at - room) _ (at - room) 8 lent (omega arith) (omega (arith, t, least))

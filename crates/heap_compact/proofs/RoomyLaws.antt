@@ -7,7 +7,8 @@ use Rattle.heap_compact.proofs.SeenLaws.{header_stay, seen_more, seen_closed, be
 -- ---- rooms of lists
 
 -- one run, where it has a chunk
-short_run : (size : ℕ) (run : List Chunk) → room_of run < size → All (λ room. room < size) (rooms_of (filter has_chunk (run ∷ [])))
+short_run : (size : ℕ) (run : List Chunk) → room_of run < size
+    → All (λ room. room < size) (rooms_of (filter has_chunk (run ∷ [])))
 short_run size [] low = All-nil (λ room. room < size)
 short_run size (c ∷ run) low = All-cons (λ room. room < size) (room_of (c ∷ run)) [] low (All-nil (λ room. room < size))
 
@@ -15,11 +16,12 @@ short_run size (c ∷ run) low = All-cons (λ room. room < size) (room_of (c ∷
 short_behind : (size : ℕ) (closed run after : List Chunk) (runs : List (List Chunk)) → EndsStaying closed → NoneStays run → runs_between after ≡ [] ∷ runs → filter has_chunk runs ≡ [] → All (λ room. room < size) (rooms_of (stretches closed)) → room_of run < size
     → All (λ room. room < size) (rooms_of (stretches (closed ++ (run ++ after))))
 short_behind size closed run after runs ends none begins empty short low =
-    let one : stretches (run ++ after) ≡ filter has_chunk (run ∷ []) = ap (filter has_chunk) (run_then run after runs none begins) ∙ with_none run in
+    let one = ap (filter has_chunk) (run_then run after runs none begins) ∙ with_none run in
     let all : rooms_of (stretches (closed ++ (run ++ after))) ≡ rooms_of (stretches closed) ++ rooms_of (filter has_chunk (run ∷ [])) =
     ap rooms_of (stretches_behind closed (run ++ after) ends) ∙ rooms_of-append (stretches closed) (stretches (run ++ after)) ∙ ap (λ (others : List (List Chunk)). rooms_of (stretches closed) ++ rooms_of others) one in
-    subst (λ (rooms : List ℕ). All (λ room. room < size) rooms) (sym all) (All-append (λ room. room < size) (rooms_of (stretches closed)) (rooms_of (filter has_chunk (run ∷ []))) short (short_run size run low)) where
-      with_none : (first : List Chunk) → filter has_chunk (first ∷ runs) ≡ filter has_chunk (first ∷ [])
+    subst (λ rooms. All (λ room. room < size) rooms) (sym all) (All-append (λ room. room < size) (rooms_of (stretches closed)) (rooms_of (filter has_chunk (run ∷ []))) short (short_run size run low)) where
+      with_none : (first : List Chunk)
+          → filter has_chunk (first ∷ runs) ≡ filter has_chunk (first ∷ [])
       with_none [] = empty
       with_none (c ∷ first) = ap (λ (others : List (List Chunk)). (c ∷ first) ∷ others) empty
 
@@ -31,10 +33,10 @@ stay_alone (fixed bytes owner) s = refl
 
 -- ---- the search
 
-pub rooms_start : {image : List ℕ} (size : ℕ) {start : ℕ} → HeapAccepted image → start ≡ area_start image → SeenRooms image size start start 0
+pub rooms_start : {image : List ℕ} (size : ℕ) {start : ℕ} → HeapAccepted image
+    → start ≡ area_start image → SeenRooms image size start start 0
 rooms_start size h e =
-    let fits = h.1.tiles.head.a_chunk_fits in
-    record {
+    let fits = h.1.tiles.head.a_chunk_fits in record {
       seen = record { closed = []; run = []; spelled = sym e; none_stays = tt; ends = tt; from = omega (arith, e); low = omega arith; inside = omega (arith, fits, e) };
       room_is = refl;
       short = All-nil (λ other. other < size);
@@ -49,7 +51,7 @@ module _ {image : List ℕ} {size start here room : ℕ} (r : SeenRooms image si
       let sum = sum_by-append free_size run (f.chunk ∷ []) in
       let one = sum_by-cons free_size f.chunk [] in
       let is : more ≡ free_size f.chunk = more_is ∙ ap free_by f.header_is ∙ free_of f.chunk in
-      record { seen = seen_more image start start here taken header r.seen f e goes; room_is = omega (arith, r.room_is, sum, one, is); short = r.short }
+      record { seen = seen_more _ _ _ here _ _ r.seen f e goes; room_is = omega (arith, r.room_is, sum, one, is); short = r.short }
 
   pub rooms_closed : {taken : ℕ} {header : Header} → HasHeader image here header → taken ≡ size_by header → HeaderStays header → room < size → SeenRooms image size (here + taken) (here + taken) 0
   unfolding seen_closed
@@ -57,13 +59,13 @@ module _ {image : List ℕ} {size start here room : ℕ} (r : SeenRooms image si
       let stay_c = header_stay f.chunk (subst HeaderStays f.header_is stay) in
       let short = short_behind size closed run (f.chunk ∷ []) ([] ∷ []) r.seen.ends r.seen.none_stays (stay_alone f.chunk stay_c) refl r.short (omega (arith, r.room_is, low)) in
       record {
-        seen = seen_closed image start (here + taken) start here taken header r.seen f e stay (omega arith);
+        seen = seen_closed image start _ start here taken header r.seen f e stay (omega arith);
         room_is = refl;
-        short = subst (λ (cs : List Chunk). All (λ other. other < size) (rooms_of (stretches cs))) (sym (append_assoc closed run (f.chunk ∷ []))) short;
+        short = rw (← (append_assoc closed run (f.chunk ∷ []))) at short;
       }
 
   run_ends : here ≡ area_start image + total closed + total run
-  run_ends = SpelledAll-end image _ run here (SpelledAll-split image (area_start image) closed run here r.seen.spelled).1
+  run_ends = SpelledAll-end _ _ run here (SpelledAll-split _ _ _ run here r.seen.spelled).1
 
   -- how much room there is so far
   pub rooms_low : room ≤ here
@@ -75,24 +77,27 @@ module _ {image : List ℕ} {size start here room : ℕ} (r : SeenRooms image si
 
     -- ---- a stretch is found
 
-    roomy : size ≤ room → BeginsStaying others.0 → HasRoom image size (record { start = start; end = here })
+    roomy : size ≤ room → BeginsStaying others.0
+        → HasRoom image size (record { start = start; end = here })
     roomy enough begins = record {
       before = closed;
       mid = run;
       after = others.0;
       is = record {
-        whole = record { chunks = others.1 ∙ append_assoc closed run others.0; none_stays = r.seen.none_stays; in_front = r.seen.ends; behind = begins };
+        whole = record { chunks = others.1 ∙ append_assoc closed run _; none_stays = r.seen.none_stays; in_front = r.seen.ends; behind = begins };
         from = r.seen.from;
         to = omega (arith, run_ends, r.seen.from);
       };
       enough = omega (arith, enough, r.room_is);
     }
 
-    pub room_found : {header : Header} → HasHeader image here header → HeaderStays header → size ≤ room → HasRoom image size (record { start = start; end = here })
+    pub room_found : {header : Header} → HasHeader image here header → HeaderStays header
+        → size ≤ room → HasRoom image size (record { start = start; end = here })
     room_found f stay enough =
         roomy enough (begins_there image here f.chunk others.0 others.2 f.spelled (header_stay f.chunk (subst HeaderStays f.header_is stay)))
 
-    pub room_last : length image ≤ here → size ≤ room → HasRoom image size (record { start = start; end = here })
+    pub room_last : length image ≤ here → size ≤ room
+        → HasRoom image size (record { start = start; end = here })
     room_last past enough = roomy enough (none_there image here others.0 others.2 past)
 
     -- or none is
@@ -102,5 +107,6 @@ module _ {image : List ℕ} {size start here room : ℕ} (r : SeenRooms image si
         subst (λ (cs : List Chunk). All (λ other. other < size) (rooms_of (stretches cs))) (sym all)
         (short_behind size closed run [] [] r.seen.ends r.seen.none_stays refl refl r.short (omega (arith, r.room_is, low)))
 
-pub room_stretch : {image : List ℕ} {size : ℕ} {stretch : Stretch} → HasRoom image size stretch → IsStretch image stretch
+pub room_stretch : {image : List ℕ} {size : ℕ} {stretch : Stretch} → HasRoom image size stretch
+    → IsStretch image stretch
 room_stretch r = record { before = r.before; mid = r.mid; after = r.after; is = r.is }

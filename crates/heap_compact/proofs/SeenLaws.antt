@@ -4,7 +4,8 @@ use Rattle.laws_heap.proofs.FixedNames.{fixed_live_is}
 
 -- ---- the chunk that was found
 
-pub unlocked : (image : List ℕ) (found : Found) → IsOne image found → found.lock ≡ 0 → IsUnlocked image (found.place.0 - 8) found.name.0 found.length
+pub unlocked : (image : List ℕ) (found : Found) → IsOne image found → found.lock ≡ 0
+    → IsUnlocked image (found.place.0 - 8) found.name.0 found.length
 unlocked image found f none = of_chunk f.chunk f.finds.named f.finds.chunks where
   of_chunk : (c : Chunk) → NamedHere found.name.0 f.live (found.place.0 - 8) c → chunks_of image ≡ f.finds.before ++ c ∷ f.finds.after → IsUnlocked image (found.place.0 - 8) found.name.0 found.length
   of_chunk (free size) named chunks = absurd named
@@ -15,11 +16,11 @@ unlocked image found f none = of_chunk f.chunk f.finds.named f.finds.chunks wher
         bytes = bytes;
         owner = owner;
         after = f.finds.after;
-        chunks = chunks ∙ ap (λ (n : ℕ). f.finds.before ++ movable bytes n owner slot ∷ f.finds.after) lock_is ∙ ap (λ (n : ℕ). f.finds.before ++ movable bytes 0 owner n ∷ f.finds.after) named.0;
+        chunks = chunks ∙ ap (λ n. f.finds.before ++ movable bytes n owner slot ∷ f.finds.after) lock_is ∙ ap (λ n. f.finds.before ++ movable bytes 0 owner n ∷ f.finds.after) named.0;
         there = f.finds.there;
         many = f.count ∙ sym (ap (λ (x : LiveChunk). length x.bytes) named.1);
       }
-  of_chunk (fixed bytes owner) named chunks = let lock_is : 15 ≡ 0 = ap (λ (x : LiveChunk). x.lock) (fixed_live_is (found.place.0 - 8) bytes owner named) ∙ sym f.lock_is ∙ none in absurd (omega (arith, lock_is))
+  of_chunk _ named chunks = let lock_is = ap (λ x. x.lock) (fixed_live_is _ _ _ named) ∙ sym f.lock_is ∙ none in absurd (omega (arith, lock_is))
 
 -- ---- chunks that stay
 
@@ -44,18 +45,21 @@ ends_push (d ∷ e ∷ xs) c s = ends_push (e ∷ xs) c s
 pub unlocked_there : {image : List ℕ} {at name count : ℕ} → HeapAccepted image → (u : IsUnlocked image at name count) → SpelledAll image (area_start image) u.before at × Spelled image at (movable u.bytes 0 u.owner name)
 unlocked_there {image} {name} h u =
     let heap = heap_in_parts _ _ h u.chunks in
-    let parts = SpelledAll-split image (area_start image) u.before (movable u.bytes 0 u.owner name ∷ u.after) (length image) heap.tiles.area in
-    (subst (λ (n : ℕ). SpelledAll image (area_start image) u.before n) (sym u.there) parts.0, subst (λ (n : ℕ). Spelled image n (movable u.bytes 0 u.owner name)) (sym u.there) parts.1.0)
+    let parts = SpelledAll-split image _ u.before _ (length image) heap.tiles.area in
+    (rw (← u.there) at parts.0, rw (← u.there) at parts.1.0)
 
-pub seen_start : {image : List ℕ} {at name count start : ℕ} → HeapAccepted image → IsUnlocked image at name count → start ≡ area_start image → SeenUpTo image at start start
+pub seen_start : {image : List ℕ} {at name count start : ℕ} → HeapAccepted image
+    → IsUnlocked image at name count → start ≡ area_start image → SeenUpTo image at start start
 seen_start h u e =
     let fits = h.1.tiles.head.a_chunk_fits in
     record { closed = []; run = []; spelled = sym e; none_stays = tt; ends = tt; from = omega (arith, e); low = omega (arith, u.there, e); inside = omega (arith, fits, e) }
 
-pub seen_chunk : {image : List ℕ} {at start here : ℕ} → HeapAccepted image → SeenUpTo image at start here → here < length image → (c : Chunk) × Spelled image here c
+pub seen_chunk : {image : List ℕ} {at start here : ℕ} → HeapAccepted image
+    → SeenUpTo image at start here → here < length image → (c : Chunk) × Spelled image here c
 seen_chunk {here} h s more = chunk_there _ _ (s.closed ++ s.run) here h.1.tiles s.spelled more
 
-pub seen_size : {image : List ℕ} {here size : ℕ} {header : Header} → HasHeader image here header → size ≡ size_by header → (8 ≤ size) × (here + size ≤ length image)
+pub seen_size : {image : List ℕ} {here size : ℕ} {header : Header} → HasHeader image here header
+    → size ≡ size_by header → (8 ≤ size) × (here + size ≤ length image)
 seen_size {image} {here} f e =
     let s = Spelled-size image here f.chunk f.spelled in
     let same = e ∙ ap size_by f.header_is ∙ size_by-header_of f.chunk in
@@ -64,12 +68,12 @@ seen_size {image} {here} f e =
 unfoldable pub seen_more : (image : List ℕ) (at start here size : ℕ) (header : Header) → SeenUpTo image at start here → HasHeader image here header → size ≡ size_by header → (HeaderStays header → ⊥) → SeenUpTo image at start (here + size)
 seen_more image at start here size header s f e goes =
     let same : size ≡ size_of f.chunk = e ∙ ap size_by f.header_is ∙ size_by-header_of f.chunk in
-    let next : here + size ≡ here + size_of f.chunk = ap (λ (n : ℕ). here + n) same in
-    record {
+    let next : here + size ≡ here + size_of f.chunk = ap (λ (n : ℕ). here + n) same in record {
       closed = s.closed;
       run = s.run ++ f.chunk ∷ [];
-      spelled = subst (λ (cs : List Chunk). SpelledAll image (area_start image) cs (here + size)) (append_assoc s.closed s.run (f.chunk ∷ [])) (SpelledAll-push image (area_start image) (s.closed ++ s.run) here f.chunk _ s.spelled f.spelled next);
-      none_stays = (none_stays-append s.run (f.chunk ∷ [])).1 (s.none_stays, header_goes f.chunk (λ k. goes (subst HeaderStays (sym f.header_is) k)));
+      spelled = rw (append_assoc s.closed s.run (f.chunk ∷ [])) at (SpelledAll-push image (area_start image) (s.closed ++ s.run) here f.chunk _ s.spelled f.spelled next);
+      none_stays = (none_stays-append s.run (f.chunk ∷ [])).1
+          (s.none_stays, header_goes f.chunk (λ k. goes (subst HeaderStays (sym f.header_is) k)));
       ends = s.ends;
       from = s.from;
       low = s.low;
@@ -95,7 +99,7 @@ seen_closed image at later start here size header s f e stay low =
     record {
       closed = (s.closed ++ s.run) ++ f.chunk ∷ [];
       run = [];
-      spelled = subst (λ (cs : List Chunk). SpelledAll image (area_start image) cs (here + size)) (sym (append-nil ((s.closed ++ s.run) ++ f.chunk ∷ []))) all;
+      spelled = rw (← (append-nil ((s.closed ++ s.run) ++ f.chunk ∷ []))) at all;
       none_stays = tt;
       ends = ends_push (s.closed ++ s.run) f.chunk (header_stay f.chunk (subst HeaderStays f.header_is stay));
       from = last;
@@ -107,18 +111,20 @@ seen_closed image at later start here size header s f e stay low =
 
 found_back : (image : List ℕ) (at here : ℕ) (v : Chunk) {run : List Chunk} (front rest : List Chunk) → run ≡ front ++ rest → SpelledAll image at rest here → Spelled image at v → at < here → (back : List Chunk) × (run ≡ front ++ v ∷ back)
 found_back image at here v front [] e s p low = absurd (omega (arith, s, low))
-found_back image at here v front (d ∷ rest) e s p low = (rest, e ∙ ap (λ (x : Chunk). front ++ x ∷ rest) (Spelled-unique image at d v s.0 p))
+found_back image at here v front (d ∷ rest) e s p low = (rest, e ∙ ap (λ x. front ++ x ∷ rest) (Spelled-unique _ at d v s.0 p))
 
 pub begins_there : (image : List ℕ) (here : ℕ) (c : Chunk) (after : List Chunk) → SpelledAll image here after (length image) → Spelled image here c → IsTrue (stays_put c) → BeginsStaying after
 begins_there image here c [] s p stay = tt
-begins_there image here c (d ∷ after) s p stay = subst (λ (x : Chunk). IsTrue (stays_put x)) (Spelled-unique image here c d p s.0) stay
+begins_there image here c (d ∷ after) s p stay = rw (Spelled-unique image here c d p s.0) at stay
 
-pub nothing_after : (image : List ℕ) (here : ℕ) (after : List Chunk) → SpelledAll image here after (length image) → length image ≤ here → after ≡ []
+pub nothing_after : (image : List ℕ) (here : ℕ) (after : List Chunk)
+    → SpelledAll image here after (length image) → length image ≤ here → after ≡ []
 nothing_after image here [] s past = refl
-nothing_after image here (d ∷ after) s past = let size = Spelled-size image here d s.0 in absurd (omega (arith, size.0, size.1, past))
+nothing_after image here (d ∷ after) s past = let size = Spelled-size _ here d s.0 in absurd (omega (arith, size.0, size.1, past))
 
-pub none_there : (image : List ℕ) (here : ℕ) (after : List Chunk) → SpelledAll image here after (length image) → length image ≤ here → BeginsStaying after
-none_there image here after s past = subst BeginsStaying (sym (nothing_after image here after s past)) tt
+pub none_there : (image : List ℕ) (here : ℕ) (after : List Chunk)
+    → SpelledAll image here after (length image) → length image ≤ here → BeginsStaying after
+none_there image here after s past = subst BeginsStaying (sym (nothing_after _ here _ s past)) tt
 
 module _ {image : List ℕ} {at name count start here : ℕ} (h : HeapAccepted image) (u : IsUnlocked image at name count) (s : SeenUpTo image at start here) where
   open s use {closed, run}
@@ -126,25 +132,24 @@ module _ {image : List ℕ} {at name count start here : ℕ} (h : HeapAccepted i
   abbrev v : Chunk
   v = movable u.bytes 0 u.owner name
 
-  pub seen_stay : {size : ℕ} {header : Header} → HasHeader image here header → size ≡ size_by header → HeaderStays header → here ≤ at → SeenUpTo image at (here + size) (here + size)
+  pub seen_stay : {size : ℕ} {header : Header} → HasHeader image here header → size ≡ size_by header
+      → HeaderStays header → here ≤ at → SeenUpTo image at (here + size) (here + size)
   seen_stay {size} {header} f e stay low =
       let same : size ≡ size_of f.chunk = e ∙ ap size_by f.header_is ∙ size_by-header_of f.chunk in
       let stay_c = header_stay f.chunk (subst HeaderStays f.header_is stay) in
-      let t = unlocked_there h u in
-      let rest = SpelledAll-rest image (area_start image) (closed ++ run) u.before here at s.spelled t.0 low in
+      let t = unlocked_there h u in let rest = SpelledAll-rest _ _ _ _ here at s.spelled t.0 low in
       let fits = ends_before image here at f.chunk v rest.0 rest.2 f.spelled t.1 stay_c (λ k. cc) in
       seen_closed image at at start here size header s f e stay (omega (arith, fits, same))
 
   -- the run has the chunk, with some in front of it and some after it
-  around : (after : List Chunk) → at < here → chunks_of image ≡ (closed ++ run) ++ after → BeginsStaying after → IsAmongAt image at name count (record { start = start; end = here })
+  around : (after : List Chunk) → at < here → chunks_of image ≡ (closed ++ run) ++ after
+      → BeginsStaying after → IsAmongAt image at name count (record { start = start; end = here })
   around after low chunks begins =
-      let begin : ℕ = area_start image + total closed in
-      let t = unlocked_there h u in
+      let begin : ℕ = area_start image + total closed in let t = unlocked_there h u in
       let parts = SpelledAll-split image (area_start image) closed run here s.spelled in
-      let front = SpelledAll-rest image (area_start image) closed u.before begin at parts.0 t.0 (omega (arith, s.from, s.low)) in
+      let front = SpelledAll-rest image _ _ _ begin at parts.0 t.0 (omega (arith, s.from, s.low)) in
       let rest = SpelledAll-rest image begin front.0 run at here front.2 parts.1 (omega (arith, low)) in
-      let back = found_back image at here v front.0 rest.0 rest.1 rest.2 t.1 low in
-      record {
+      let back = found_back image at here v front.0 rest.0 rest.1 rest.2 t.1 low in record {
         before = closed;
         front = front.0;
         bytes = u.bytes;
@@ -163,11 +168,13 @@ module _ {image : List ℕ} {at name count start here : ℕ} (h : HeapAccepted i
   others : (after : List Chunk) × (chunks_of image ≡ (closed ++ run) ++ after) × SpelledAll image here after (length image)
   others = chunks_after _ _ (closed ++ run) here h.1.tiles s.spelled s.inside
 
-  pub seen_found : {header : Header} → HasHeader image here header → HeaderStays header → at < here → IsAmongAt image at name count (record { start = start; end = here })
+  pub seen_found : {header : Header} → HasHeader image here header → HeaderStays header → at < here
+      → IsAmongAt image at name count (record { start = start; end = here })
   seen_found f stay low =
-      around others.0 low others.1 (begins_there image here f.chunk others.0 others.2 f.spelled (header_stay f.chunk (subst HeaderStays f.header_is stay)))
+      around _ low others.1 (begins_there _ here _ _ others.2 f.spelled (header_stay _ (subst HeaderStays f.header_is stay)))
 
-  pub seen_all : length image ≤ here → IsAmongAt image at name count (record { start = start; end = here })
+  pub seen_all : length image ≤ here
+      → IsAmongAt image at name count (record { start = start; end = here })
   seen_all past =
       let size = Spelled-size image at v (unlocked_there h u).1 in
-      around others.0 (omega (arith, size.0, size.1, past)) others.1 (none_there image here others.0 others.2 past)
+      around _ (omega (arith, size.0, size.1, past)) others.1 (none_there _ here _ others.2 past)

@@ -22,16 +22,17 @@ pub record SpaceWritten (old : List ℕ) (new : Memory) (heads : List ℕ) (know
 
 module _ {old region : Memory} {heads : List ℕ} {known : Remembered} {found : Found} (view : region ≡ old) (s : IsSpace region heads known) (f : IsOne old.bytes found) where
   -- what is written may depend on the bytes that were there
-  pub body_written : {new : List ℕ} (at place : ℕ) (part : List ℕ → List ℕ) → place ≡ found.place.0 + at
-      → at + length (part old.bytes) ≤ found.length → new ≡ overwritten region.bytes place (part region.bytes)
+  pub body_written : {new : List ℕ} (at place : ℕ) (part : List ℕ → List ℕ)
+      → place ≡ found.place.0 + at
+      → at + length (part old.bytes) ≤ found.length
+      → new ≡ overwritten region.bytes place (part region.bytes)
       → BodyWritten old.bytes new heads known found at (part old.bytes)
   body_written at place part e fits is =
       let heap = viewed_heap view s.heap in
       let whole = is ∙ ap (λ (n : ℕ). overwritten region.bytes n (part region.bytes)) e in
       let mine = whole ∙ ap (λ (m : Memory). overwritten region.bytes (found.place.0 + at) (part m.bytes)) view in
       let shown = whole ∙ ap (λ (m : Memory). overwritten m.bytes (found.place.0 + at) (part m.bytes)) view in
-      let there = written_there _ _ found at (part old.bytes) heap.accepted f fits shown in
-      record {
+      let there = written_there _ _ found at (part old.bytes) heap.accepted f fits shown in record {
         fits = fits;
         made = there.0;
         plain = there.1;
@@ -51,16 +52,16 @@ module _ {old region : Memory} {heads : List ℕ} {known : Remembered} {found : 
     pub body_within : (at n : ℕ) → at + n ≤ found.length → IsWithin region (found.place.0 + at) n
     body_within at n fits =
         let heap = viewed_heap view s.heap in
-        subst (λ (m : Memory). IsWithin m (found.place.0 + at) n) (sym view) (one_body_within old found at n heap.accepted heap.lent f other fits)
+        subst (λ (m : Memory). IsWithin m (found.place.0 + at) n) (sym view) (one_body_within old _ at n heap.accepted heap.lent f other fits)
 
 -- ---- a chunk is put into room that was found
 
 -- the room is taken from its lists, the chunk is put there, and all lists are built
 pub room_claimed : {old region : Memory} {taken mid new : List ℕ} {at room size : ℕ} (count : ℕ) (chunk : Chunk) → region ≡ old → size ≡ need count → size_of chunk ≡ need count
     → Becomes region.bytes taken (chunks_of region.bytes) → CutsRoom region.bytes taken at room size → Fills taken mid at (need count) chunk → Becomes mid new (chunks_of mid) → Claims old.bytes new at room chunk
-room_claimed {region} {taken} {new} {at} {room} count chunk view e is same cut fills built =
-    let makes = cut_claims _ _ _ _ room _ _ is same (subst (λ (n : ℕ). CutsRoom region.bytes taken at room n) e cut) fills in
-    subst (λ (m : Memory). Claims m.bytes new at room chunk) view (claims_same _ _ _ _ _ chunk makes built)
+room_claimed {new} {at} {room} count chunk view e is same cut fills built =
+    let makes = cut_claims _ _ _ _ room _ _ is same (rw e at cut) fills in
+    subst (λ m. Claims m.bytes new at room chunk) view (claims_same _ _ _ _ _ _ makes built)
 
 -- ---- bytes at equal distances are changed
 

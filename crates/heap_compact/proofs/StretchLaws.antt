@@ -1,5 +1,5 @@
 -- A stretch can be packed, and then its room can be opened after one of its chunks.
-use Rattle.heap_compact.proofs.Words.{◌≡◌, ℕ, zero, suc, ◌+◌, ◌-◌, ◌<◌, ◌≤◌, List, [], ◌∷◌, ◌++◌, length, refl, sym, ap, subst, ◌∙◌, append_assoc, arith, append-nil, sum_by-cons, u32_at, Chunk, free, movable, fixed, need, total, free_size, IsSlot, area_start, Memory, HoldsHeap, BodyHere, IsHeap, HeapAccepted, chunks_of, NoneStays, stays_put, room_of, SameFrame, Becomes, gap, merged, IsRoom, WritesPlain, packed, lives, EndsStaying, WholeStretch, opened, OpensBehind, Stretch, HasFreeBehind, BecomesExactly, IsRun, Packs, LeavesLastRoom, last_room, KeepsApart, StretchIs, IsStretch, IsAmongAt, HasRoomOf, OpensExactly, IsTrue, total-append, SpelledAll-split, SpelledAll-end, AnyPlaced-mid, gap_free, gap_total, lives-append, lives_total, lives_twice, none_stays-append, stretch_packed, room_of-middle, one_stretch, heap_in_parts}
+use Rattle.heap_compact.proofs.Words.{◌≡◌, ℕ, zero, suc, ◌+◌, ◌-◌, ◌<◌, ◌≤◌, List, [], ◌∷◌, ◌++◌, length, refl, sym, ap, subst, ◌∙◌, append_assoc, arith, append-nil, sum_by-cons, u32_at, Chunk, free, movable, fixed, need, total, free_size, IsSlot, area_start, Memory, HoldsHeap, IsHeap, HeapAccepted, chunks_of, NoneStays, stays_put, room_of, SameFrame, gap, merged, IsRoom, WritesPlain, packed, lives, EndsStaying, WholeStretch, opened, OpensBehind, Stretch, HasFreeBehind, BecomesExactly, IsRun, Packs, LeavesLastRoom, last_room, KeepsApart, StretchIs, IsStretch, IsAmongAt, HasRoomOf, OpensExactly, IsTrue, total-append, SpelledAll-split, SpelledAll-end, AnyPlaced-mid, gap_free, gap_total, lives-append, lives_total, lives_twice, none_stays-append, stretch_packed, room_of-middle, one_stretch, heap_in_parts}
 use Rattle.laws_heap.proofs.Layouts.{IsNotFree}
 use Rattle.heap_compact.proofs.ExactLaws.{exactly_start, exactly_becomes, exactly_then}
 use Rattle.heap_place.proofs.RoomLaws.{live_keeps}
@@ -7,12 +7,14 @@ use Rattle.heap_compact.proofs.DropLaws.{gap_some, gap_none}
 
 -- ---- a stretch is packed
 
-abbrev pub stretch_run : {image : List ℕ} {before mid after : List Chunk} {stretch : Stretch} → StretchIs image before mid after stretch → IsRun image stretch.start stretch.end
-stretch_run {before} {mid} {after} s = record { before = before; mid = mid; after = after; chunks = s.whole.chunks; from = s.from; to = s.to }
+abbrev pub stretch_run : {image : List ℕ} {before mid after : List Chunk} {stretch : Stretch}
+    → StretchIs image before mid after stretch → IsRun image stretch.start stretch.end
+stretch_run {before} {mid} {after} s = record { before = before; mid = mid; after = _; chunks = s.whole.chunks; from = s.from; to = s.to }
 
 -- of a chunk that is among its own
-pub among_stretch : {image : List ℕ} {at name count : ℕ} {stretch : Stretch} → IsAmongAt image at name count stretch → IsStretch image stretch
-among_stretch {name} a = record { before = a.before; mid = a.front ++ movable a.bytes 0 a.owner name ∷ a.back; after = a.after; is = a.is }
+pub among_stretch : {image : List ℕ} {at name count : ℕ} {stretch : Stretch}
+    → IsAmongAt image at name count stretch → IsStretch image stretch
+among_stretch {name} a = record { before = a.before; mid = a.front ++ movable a.bytes 0 a.owner name ∷ a.back; after = _; is = a.is }
 
 -- all room of chunks of which none stays is at their end
 pub loose_lives : (cs : List Chunk) → NoneStays cs → NoneStays (lives cs)
@@ -30,7 +32,8 @@ last_loose room (movable bytes (suc count) owner slot ∷ cs) n = absurd n
 last_loose room (fixed bytes owner ∷ cs) n = absurd n
 
 -- the room that is left of a stretch
-pub room_left : {image : List ℕ} (stretch : Stretch) {room : ℕ} → LeavesLastRoom image stretch.start stretch.end room → HasRoomOf image stretch room
+pub room_left : {image : List ℕ} (stretch : Stretch) {room : ℕ}
+    → LeavesLastRoom image stretch.start stretch.end room → HasRoomOf image stretch room
 room_left stretch leaves before mid after s =
     omega (arith, leaves (stretch_run s), last_loose 0 mid s.whole.none_stays)
 
@@ -40,9 +43,10 @@ stay_live (free size) stay = cc
 stay_live (movable bytes lock owner slot) stay = tt
 stay_live (fixed bytes owner) stay = tt
 
-end_split : (c : Chunk) (cs : List Chunk) → EndsStaying (c ∷ cs) → (front : List Chunk) × (last : Chunk) × (c ∷ cs ≡ front ++ last ∷ []) × IsNotFree last
+end_split : (c : Chunk) (cs : List Chunk) → EndsStaying (c ∷ cs)
+    → (front : List Chunk) × (last : Chunk) × (c ∷ cs ≡ front ++ last ∷ []) × IsNotFree last
 end_split c [] stay = ([], c, refl, stay_live c stay)
-end_split c (d ∷ cs) stay = let e = end_split d cs stay in (c ∷ e.0, e.1, ap (λ (xs : List Chunk). c ∷ xs) e.2, e.3)
+end_split c (d ∷ cs) stay = let e = end_split d _ stay in (c ∷ e.0, e.1, ap (λ xs. c ∷ xs) e.2, e.3)
 
 staying_keeps : (cs : List Chunk) → EndsStaying cs → KeepsApart cs
 staying_keeps [] stay = λ others. refl
@@ -61,10 +65,9 @@ pub packed_end : {old new : List ℕ} {before mid after : List Chunk} {stretch :
 packed_end {new} {before} {mid} {after} {room} s b is =
     let front : List Chunk = before ++ lives mid in
     let parts : chunks_of new ≡ front ++ (gap room ++ after) =
-    b.exact ∙ ap (λ (cs : List Chunk). before ++ (cs ++ after)) (stretch_packed mid s.whole.none_stays ∙ ap (λ (n : ℕ). lives mid ++ gap n) (sym is)) ∙ ap (λ (cs : List Chunk). before ++ cs) (append_assoc (lives mid) (gap room) after)
+    b.exact ∙ ap (λ cs. before ++ (cs ++ after)) (stretch_packed mid s.whole.none_stays ∙ ap (λ n. lives mid ++ gap n) (sym is)) ∙ ap (λ cs. before ++ cs) (append_assoc (lives mid) (gap room) after)
     ∙ sym (append_assoc before (lives mid) (gap room ++ after)) in
-    let both = total-append before (lives mid) in
-    record {
+    let both = total-append before (lives mid) in record {
       before = front;
       run = gap room;
       after = after;
@@ -79,21 +82,22 @@ packed_end {new} {before} {mid} {after} {room} s b is =
 
 pub regroup : (before xs ys after : List Chunk) (v f : Chunk) → before ++ (((xs ++ v ∷ ys) ++ f ∷ []) ++ after) ≡ (before ++ (xs ++ v ∷ [])) ++ (ys ++ f ∷ after)
 regroup before xs ys after v f =
-    ap (λ (cs : List Chunk). before ++ cs) (append_assoc (xs ++ v ∷ ys) (f ∷ []) after ∙ append_assoc xs (v ∷ ys) (f ∷ after) ∙ sym (append_assoc xs (v ∷ []) (ys ++ f ∷ after)))
+    ap (λ cs. before ++ cs) (append_assoc (xs ++ v ∷ ys) (f ∷ []) after ∙ append_assoc xs (v ∷ ys) (f ∷ after) ∙ sym (append_assoc xs (v ∷ []) (ys ++ f ∷ after)))
     ∙ sym (append_assoc before (xs ++ v ∷ []) (ys ++ f ∷ after))
 
-regroup_open : (before xs ys after : List Chunk) (v f : Chunk) → (before ++ (xs ++ v ∷ [])) ++ f ∷ (ys ++ after) ≡ before ++ ((xs ++ v ∷ f ∷ ys) ++ after)
+regroup_open : (before xs ys after : List Chunk) (v f : Chunk)
+    → (before ++ (xs ++ v ∷ [])) ++ f ∷ (ys ++ after) ≡ before ++ ((xs ++ v ∷ f ∷ ys) ++ after)
 regroup_open before xs ys after v f =
-    append_assoc before (xs ++ v ∷ []) (f ∷ (ys ++ after)) ∙ ap (λ (cs : List Chunk). before ++ cs) (append_assoc xs (v ∷ []) (f ∷ (ys ++ after)) ∙ sym (append_assoc xs (v ∷ f ∷ ys) after))
+    append_assoc before (xs ++ v ∷ []) (f ∷ (ys ++ after)) ∙ ap (λ cs. before ++ cs) (append_assoc xs (v ∷ []) (f ∷ (ys ++ after)) ∙ sym (append_assoc xs (v ∷ f ∷ ys) after))
 
-regroup_around : (before xs ys gaps after : List Chunk) (v : Chunk) → before ++ (((xs ++ v ∷ ys) ++ gaps) ++ after) ≡ (before ++ xs) ++ v ∷ (ys ++ (gaps ++ after))
+regroup_around : (before xs ys gaps after : List Chunk) (v : Chunk)
+    → before ++ (((xs ++ v ∷ ys) ++ gaps) ++ after) ≡ (before ++ xs) ++ v ∷ (ys ++ (gaps ++ after))
 regroup_around before xs ys gaps after v =
-    ap (λ (cs : List Chunk). before ++ cs) (append_assoc (xs ++ v ∷ ys) gaps after ∙ append_assoc xs (v ∷ ys) (gaps ++ after)) ∙ sym (append_assoc before xs (v ∷ (ys ++ (gaps ++ after))))
+    ap (λ cs. before ++ cs) (append_assoc (xs ++ v ∷ ys) gaps after ∙ append_assoc xs (v ∷ ys) (gaps ++ after)) ∙ sym (append_assoc before xs (v ∷ (ys ++ (gaps ++ after))))
 
 opened_alike : {before front : List Chunk} (c : Chunk) (back : List Chunk) {after others fore : List Chunk} (d : Chunk) (rear : List Chunk) {later : List Chunk} → before ≡ others → front ≡ fore → c ∷ back ≡ d ∷ rear → after ≡ later → others ++ (opened fore d rear ++ later) ≡ before ++ (opened front c back ++ after)
 opened_alike c back d rear e f g k =
-    let one : c ≡ d = cc in
-    let rest : back ≡ rear = cc in
+    let one : c ≡ d = cc in let rest : back ≡ rear = cc in
     rw (e, f, one, rest, k) refl
 
 -- ---- room is opened in a packed stretch
@@ -144,7 +148,7 @@ module _ {old mid : List ℕ} {at name count : ℕ} {stretch : Stretch} {room : 
   chunks_then = packed_image.exact ∙ ap (λ (cs : List Chunk). a.before ++ (cs ++ a.after)) packed_is
 
   heap_then : IsHeap mid ((a.before ++ fore) ++ v ∷ (rear ++ (gap room ++ a.after)))
-  heap_then = heap_in_parts _ _ packed_frame.accepted (chunks_then ∙ regroup_around a.before fore rear (gap room) a.after v)
+  heap_then = heap_in_parts _ _ packed_frame.accepted (chunks_then ∙ regroup_around _ _ rear _ _ v)
 
   pub starts : area_start mid ≡ area_start old
   starts = exactly_start packed_image
@@ -152,7 +156,7 @@ module _ {old mid : List ℕ} {at name count : ℕ} {stretch : Stretch} {room : 
   tied_then : IsSlot mid name × (u32_at mid name ≡ area_start mid + total (a.before ++ fore) + 8)
   tied_then =
       (heap_then.tied name (area_start mid + total (a.before ++ fore) + 8) (omega arith)).1
-      (AnyPlaced-mid (BodyHere name (area_start mid + total (a.before ++ fore) + 8)) (area_start mid) (a.before ++ fore) v (rear ++ (gap room ++ a.after)) (refl, refl))
+      (AnyPlaced-mid _ _ _ v _ (refl, refl))
 
   pub slot_then : IsSlot mid name
   slot_then = tied_then.0
@@ -169,9 +173,9 @@ module _ {old mid : List ℕ} {at name count : ℕ} {stretch : Stretch} {room : 
   inside : stretch.end ≤ length old
   inside =
       let heap = heap_in_parts _ _ h a.is.whole.chunks in
-      let one = SpelledAll-split old (area_start old) a.before ((a.front ++ v ∷ a.back) ++ a.after) (length old) heap.tiles.area in
-      let two = SpelledAll-split old (area_start old + total a.before) (a.front ++ v ∷ a.back) a.after (length old) one.1 in
-      let last = SpelledAll-end old (area_start old + total a.before + total (a.front ++ v ∷ a.back)) a.after (length old) two.1 in
+      let one = SpelledAll-split old (area_start old) a.before _ (length old) heap.tiles.area in
+      let two = SpelledAll-split old _ (a.front ++ v ∷ a.back) a.after (length old) one.1 in
+      let last = SpelledAll-end old _ a.after (length old) two.1 in
       omega (arith, a.is.from, a.is.to, last)
 
   -- what is worked out fits
@@ -186,18 +190,17 @@ module _ {old mid : List ℕ} {at name count : ℕ} {stretch : Stretch} {room : 
   numbers =
       record { behind_header = omega (arith, place_is); inside = omega (arith, place_is, ends, ap need a.many); within = omega (arith, ends); most = omega (arith, inside, h.1.tiles.head.most); from = omega (arith, place_is) }
 
-  abbrev pub room_behind : (start : ℕ) → 0 < room → start ≡ u32_at mid name - 8 + need count → HasFreeBehind mid start (stretch.end - room) room
+  abbrev pub room_behind : (start : ℕ) → 0 < room → start ≡ u32_at mid name - 8 + need count
+      → HasFreeBehind mid start (stretch.end - room) room
   room_behind start some start_is =
-      let many = ap need a.many in
-      let one = total-append a.before (fore ++ v ∷ []) in
-      let two = total-append fore (v ∷ []) in
-      record {
+      let many = ap need a.many in let one = total-append a.before (fore ++ v ∷ []) in
+      let two = total-append fore (v ∷ []) in record {
         before = a.before ++ (fore ++ v ∷ []);
         mid = rear;
         after = a.after;
         chunks = chunks_then ∙ ap (λ (g : List Chunk). a.before ++ (((fore ++ v ∷ rear) ++ g) ++ a.after)) (gap_some room some) ∙ regroup a.before fore rear a.after v (free room);
         live = lives_twice a.back;
-        loose = loose_lives a.back ((none_stays-append a.front (v ∷ a.back)).0 a.is.whole.none_stays).1;
+        loose = loose_lives a.back ((none_stays-append a.front _).0 a.is.whole.none_stays).1;
         from = omega (arith, start_is, place_is, one, two, starts, a.is.from, many);
         to = omega (arith, start_is, place_is, ends, many);
       }
@@ -209,9 +212,10 @@ module _ {old mid : List ℕ} {at name count : ℕ} {stretch : Stretch} {room : 
     pub frame : SameFrame old new
     pub plain : WritesPlain old new
 
-  whole_opened : (new : List ℕ) → BecomesExactly old new (a.before ++ (opened a.front v a.back ++ a.after)) → OpensRoom new
+  whole_opened : (new : List ℕ)
+      → BecomesExactly old new (a.before ++ (opened a.front v a.back ++ a.after)) → OpensRoom new
   whole_opened new b = record {
-    opened_behind = λ before front bytes owner slot back after whole there. subst (λ (cs : List Chunk). Becomes old new cs) (parts before front bytes owner slot back after whole there) (exactly_becomes b);
+    opened_behind = λ before front bytes owner slot back after whole there. rw (parts before front bytes owner slot back after whole there) at (exactly_becomes b);
     exact = λ before front bytes owner slot back after whole there. b.exact ∙ parts before front bytes owner slot back after whole there;
     frame = b.frame;
     plain = b.plain;
@@ -219,19 +223,20 @@ module _ {old mid : List ℕ} {at name count : ℕ} {stretch : Stretch} {room : 
     parts : (before front : List Chunk) (bytes : List ℕ) (owner slot : ℕ) (back after : List Chunk) → WholeStretch old before (front ++ movable bytes 0 owner slot ∷ back) after → at ≡ area_start old + total before + total front
         → a.before ++ (opened a.front v a.back ++ a.after) ≡ before ++ (opened front (movable bytes 0 owner slot) back ++ after)
     parts before front bytes owner slot back after whole there =
-        let alike = one_stretch _ _ front (movable bytes 0 owner slot) back _ _ a.front v a.back _ _ h whole there a.is.whole a.there in
-        opened_alike (movable bytes 0 owner slot) back v a.back alike.in_front alike.first_part alike.rest alike.behind
+        let alike = one_stretch _ _ _ _ back _ _ _ v _ _ _ h whole there a.is.whole a.there in
+        opened_alike _ back v _ alike.in_front alike.first_part alike.rest alike.behind
 
   pub opened_some : (new : List ℕ) → 0 < room → BecomesExactly mid new ((a.before ++ (fore ++ v ∷ [])) ++ free room ∷ (rear ++ a.after)) → OpensRoom new
   opened_some new some b =
       let g : free room ∷ [] ≡ gap (room_of (a.front ++ a.back)) = sym (gap_some room some) ∙ ap gap room_is in
       let e : (a.before ++ (fore ++ v ∷ [])) ++ free room ∷ (rear ++ a.after) ≡ a.before ++ (opened a.front v a.back ++ a.after) =
-      regroup_open a.before fore rear a.after v (free room) ∙ ap (λ (cs : List Chunk). a.before ++ ((fore ++ v ∷ (cs ++ rear)) ++ a.after)) g in
-      whole_opened new (exactly_then packed_image (subst (λ (cs : List Chunk). BecomesExactly mid new cs) e b))
+      regroup_open _ fore rear _ v _ ∙ ap (λ (cs : List Chunk). a.before ++ ((fore ++ v ∷ (cs ++ rear)) ++ a.after)) g in
+      whole_opened new (exactly_then packed_image (rw e at b))
 
   pub opened_none : room ≡ 0 → OpensRoom mid
   opened_none none =
       let g : [] ≡ gap (room_of (a.front ++ a.back)) = sym (gap_none (sym room_is ∙ none)) in
       let e : packed (a.front ++ v ∷ a.back) ≡ opened a.front v a.back =
-      packed_is ∙ ap (λ (cs : List Chunk). (fore ++ v ∷ rear) ++ cs) (gap_none none) ∙ append-nil (fore ++ v ∷ rear) ∙ ap (λ (cs : List Chunk). fore ++ v ∷ (cs ++ rear)) g in
-      whole_opened mid (subst (λ (cs : List Chunk). BecomesExactly old mid (a.before ++ (cs ++ a.after))) e packed_image)
+      packed_is ∙ ap (λ (cs : List Chunk). (fore ++ v ∷ rear) ++ cs) (gap_none none)
+      ∙ append-nil (fore ++ v ∷ rear) ∙ ap (λ (cs : List Chunk). fore ++ v ∷ (cs ++ rear)) g in
+      whole_opened mid (rw e at packed_image)

@@ -4,23 +4,22 @@ pub use Rattle.heap_model.specs.Chunk.{Chunk, IsFree, IsLive, Spelled, SpelledAl
 pub use Rattle.heap_model.specs.Heap.{BodyHere, HasDirectory, HeapAccepted, IsBody, IsHeap, IsKnownIfFixed, ManagersHere, Tiles, directory_of}
 pub use Rattle.heap_model.specs.Layout.{Alters, Becomes, Claims, IsRoom, IsSpot, WritesPlain, exchanged, freed, gap, layout_of, merged, owned_freed, with_bytes}
 pub use Rattle.heap_model.specs.Leaving.{NamesDirectory}
-pub use Rattle.heap_model.specs.Lending.{HoldsHeap, IsLentBody, LendsNoneOf, LendsOther, LentHere}
+pub use Rattle.heap_model.specs.Lending.{HoldsHeap, IsLentBody, LendsOther, LentHere}
 pub use Rattle.heap_model.specs.Maps.{changed}
 pub use Rattle.heap_model.specs.Meaning.{LiveChunk, NamedHere}
-pub use Rattle.heap_model.specs.Memory.{IsWithin, Lent, Memory, Misses, NoneBegins, without, IsAmong, MissesOne}
+pub use Rattle.heap_model.specs.Memory.{IsWithin, Lent, Memory, Misses, without, IsAmong, MissesOne}
 pub use Rattle.heap_model.specs.MoreTables.{GainsTable, PutsTable, gained}
 pub use Rattle.heap_model.specs.Packing.{BeginsStaying, EndsStaying, OpensBehind, SlidesOneStretch, WholeStretch, lives, moved_behind, moved_by_packing, opened, packed, packed_behind}
 pub use Rattle.heap_model.specs.Placed.{AnyPlaced, EveryOne, EveryPlaced}
 pub use Rattle.heap_model.specs.Placing.{Finds, SameFrame}
 pub use Rattle.heap_model.specs.Reading.{chunks_of, held}
 pub use Rattle.heap_model.specs.Resizing.{GrowsInPlace, Relocates, with_length}
-pub use Rattle.heap_model.specs.Slots.{HasTable, IsSlot, Table, Tables, TablesLie, area_start, further_tables, head_end, is_chained, slot_size, slots_of, tables_of, slots_total}
+pub use Rattle.heap_model.specs.Slots.{HasTable, IsSlot, Table, Tables, TablesLie, area_start, further_tables, is_chained, slot_size, slots_of, tables_of, slots_total}
 pub use Rattle.heap_model.specs.Space.{AllFree, FitsInPlace, MovesAlone, MovesOneStretchAnd, NoRun, NoneStays, Short, ShortFor, free_front, greatest, has_chunk, moved_bytes, onto_first, place_of, room_of, rooms, rooms_of, runs_between, stays_put, stretches}
-pub use Rattle.chunk_format.specs.Header.{HasHeader, IsWritableHeader, Reslots, h_offset_to, header_words, header_of, live_words, size_by, with_slot_at}
+pub use Rattle.chunk_format.specs.Header.{HasHeader, IsWritableHeader, Reslots, h_offset_to, header_of, live_words, size_by, with_slot_at}
 pub use Rattle.chunk_format.specs.declared.header.Header.{Header}
 pub use Rattle.master_table.specs.Known.{HasLongTable, KnowsTables, Remembered, RemembersPlace}
 pub use Rattle.raw_region.specs.ByteChanges.{changed_every}
-pub use Rattle.raw_region.specs.Parts.{IsOut}
 pub use Rattle.heap_place.specs.Found.{IsFound, IsOne}
 pub use Rattle.heap_place.specs.Gathers.{Before}
 pub use Rattle.heap_place.specs.Lists.{Any, AreLists, CutsRoom, Fills, HasLists, IsFreeChunk, KeepsFree, SameChunks}
@@ -40,7 +39,7 @@ pub use Rattle.laws_heap.proofs.Replacements.{SameHead, head_tables, head_slots,
 pub use Rattle.laws_heap.proofs.SameLayouts.{frame_of, same_frame, frame_then, becomes_start, becomes_heap, slot_kept, becomes_held, becomes_place}
 pub use Rattle.laws_heap.proofs.Plain.{plain_same, plain_then, lives_plain, replaced_plain, free_plain, middle_plain}
 pub use Rattle.laws_heap.proofs.CarriedBytes.{Carries, Carries-within, u32_at-carried, slice-carried, IsFree-carried, IsLive-carried, Carries-then, slid_up, slid_down}
-pub use Rattle.laws_heap.proofs.Chunks.{SpelledAll-end, total-append, SpelledAll-split, SameWords, Spelled-size, Spelled-same, plain-callers, plain-movable, words_then, Spelled-unique, SpelledAll-push, SpelledAll-rest}
+pub use Rattle.laws_heap.proofs.Chunks.{SpelledAll-end, total-append, SpelledAll-split, Spelled-size, Spelled-same, plain-callers, plain-movable, words_then, Spelled-unique, SpelledAll-push, SpelledAll-rest}
 pub use Rattle.laws_heap.proofs.Frames.{SameBetween-within, u32_at-written, length-overwritten, overwritten-behind}
 pub use Rattle.laws_heap.proofs.Slots.{loose_hold_none, both_hold_none, slot_facts, named_hold_none, slot_beside, SlotFacts, IsBeside, slot_alike, start_listed, each_slot, tables_lie, same_slots, ends_listed, free_hold_none}
 pub use Rattle.laws_heap.proofs.Writes.{wrote_part, wrote_word, wrote_wider, wrote_then, WroteArea, area_replaces, wrote_slot, area_slots, beside_same, table_kept, WroteWithin, wrote_none, wrote_apart, wrote_slots, beside_word}

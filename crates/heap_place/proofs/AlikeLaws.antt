@@ -1,5 +1,5 @@
 -- Where second words of free chunks alone were written, chunks and room are where they were.
-use Rattle.heap_place.proofs.Words.{◌≡◌, ◌≢◌, ℕ, ◌+◌, ◌^◌, ◌<◌, List, refl, sym, ap, subst, ◌∙◌, arith, u32_bytes, overwritten, Chunk, total, area_start, HeapAccepted, chunks_of, merged, Becomes, IsSpot, frame_start, frame_then, same_frame, plain_same, Found, RunBehind, Resizes, class_count, IsOfClass, IsFreeOf, second_of, AreLists, HasLists, ButAt, Outside, IsFreeChunk, Links, CutsRoom, SameChunks, LeadsTo, Looking}
+use Rattle.heap_place.proofs.Words.{◌≡◌, ◌≢◌, ℕ, ◌+◌, ◌^◌, ◌<◌, List, refl, sym, ap, ◌∙◌, arith, u32_bytes, overwritten, Chunk, total, area_start, HeapAccepted, chunks_of, merged, Becomes, IsSpot, frame_start, frame_then, same_frame, plain_same, Found, RunBehind, Resizes, class_count, IsOfClass, IsFreeOf, second_of, AreLists, HasLists, ButAt, Outside, IsFreeChunk, Links, CutsRoom, SameChunks, LeadsTo}
 use Rattle.heap_place.proofs.ListLaws.{lists_weaker}
 use Rattle.heap_place.proofs.KeepLaws.{others_outside, free_there, begins_there, linked, links_plain, links_chunk}
 use Rattle.heap_place.proofs.SpliceLaws.{splice_lists, not_listed, looked_free}
@@ -11,33 +11,37 @@ no_words {old} h = record { frame = same_frame old h; chunks = refl; plain = pla
 pub one_word : {old new : List ℕ} {at word : ℕ} → Links old new at word → SameChunks old new
 one_word {old} {new} {at} {word} l = record { frame = l.frame; chunks = l.chunks; plain = links_plain old new at word l }
 
-alike_at : {old new : List ℕ} {at : ℕ} (before : List Chunk) → SameChunks old new → at ≡ area_start old + total before → at ≡ area_start new + total before
+alike_at : {old new : List ℕ} {at : ℕ} (before : List Chunk) → SameChunks old new
+    → at ≡ area_start old + total before → at ≡ area_start new + total before
 alike_at {old} {new} before s there = there ∙ ap (λ n. n + total before) (sym (frame_start old new s.frame))
 
-pub alike_chunk : {old new : List ℕ} {at size : ℕ} → SameChunks old new → IsFreeChunk old at size → IsFreeChunk new at size
-alike_chunk s f = record { before = f.before; after = f.after; chunks = s.chunks ∙ f.chunks; there = alike_at f.before s f.there }
+pub alike_chunk : {old new : List ℕ} {at size : ℕ} → SameChunks old new → IsFreeChunk old at size
+    → IsFreeChunk new at size
+alike_chunk s f = record { before = f.before; after = _; chunks = s.chunks ∙ f.chunks; there = alike_at _ s f.there }
 
-pub alike_spot : (old new : List ℕ) (at size : ℕ) → SameChunks old new → IsSpot old at size → IsSpot new at size
-alike_spot old new at size s r = record { before = r.before; run = r.run; after = r.after; chunks = s.chunks ∙ r.chunks; all_free = r.all_free; there = alike_at r.before s r.there; sums = r.sums }
+pub alike_spot : (old new : List ℕ) (at size : ℕ) → SameChunks old new → IsSpot old at size
+    → IsSpot new at size
+alike_spot old new at size s r = record { before = r.before; run = r.run; after = _; chunks = s.chunks ∙ r.chunks; all_free = r.all_free; there = alike_at _ s r.there; sums = r.sums }
 
-pub alike_cuts : {old mid : List ℕ} (new : List ℕ) (at room size : ℕ) → SameChunks old mid → CutsRoom mid new at room size → CutsRoom old new at room size
+pub alike_cuts : {old mid : List ℕ} (new : List ℕ) (at room size : ℕ) → SameChunks old mid
+    → CutsRoom mid new at room size → CutsRoom old new at room size
 unfolding alike_spot
 alike_cuts {old} {mid} new at room size s cuts r = cuts (alike_spot old mid at room s r)
 
-pub alike_becomes : {old mid new : List ℕ} → SameChunks old mid → Becomes mid new (chunks_of mid) → Becomes old new (chunks_of old)
+pub alike_becomes : {old mid new : List ℕ} → SameChunks old mid → Becomes mid new (chunks_of mid)
+    → Becomes old new (chunks_of old)
 alike_becomes {old} {mid} {new} s b = record { frame = frame_then old mid new s.frame b.frame; layout = b.layout ∙ ap merged s.chunks }
 
 -- ---- a chunk that was found, and the free ones after it
 
-pub alike_behind : (old new : List ℕ) (found : Found) (behind : ℕ) → SameChunks old new → RunBehind old found behind → RunBehind new found behind
+pub alike_behind : (old new : List ℕ) (found : Found) (behind : ℕ) → SameChunks old new
+    → RunBehind old found behind → RunBehind new found behind
 alike_behind old new found behind s r =
-    let o = r.one in
-    let f = o.finds in
-    record {
+    let o = r.one in let f = o.finds in record {
       one = record {
         live = o.live;
         chunk = o.chunk;
-        finds = record { before = f.before; after = f.after; chunks = s.chunks ∙ f.chunks; there = alike_at f.before s f.there; named = f.named };
+        finds = record { before = f.before; after = _; chunks = s.chunks ∙ f.chunks; there = alike_at _ s f.there; named = f.named };
         behind_header = o.behind_header;
         name_is = o.name_is;
         count = o.count;
@@ -51,7 +55,8 @@ alike_behind old new found behind s r =
       sums = r.sums;
     }
 
-pub alike_resizes : (old mid new : List ℕ) (found : Found) (count behind : ℕ) → SameChunks old mid → Resizes mid new found count behind → Resizes old new found count behind
+pub alike_resizes : (old mid new : List ℕ) (found : Found) (count behind : ℕ) → SameChunks old mid
+    → Resizes mid new found count behind → Resizes old new found count behind
 unfolding alike_behind
 alike_resizes old mid new found count behind s x r =
     let b = x (alike_behind old mid found behind s r) in
@@ -59,22 +64,25 @@ alike_resizes old mid new found count behind s x r =
 
 -- ---- a chunk that is taken out of its list
 
-pub chunk_of_class : {image : List ℕ} {class at size : ℕ} → HeapAccepted image → IsFreeChunk image at size → IsOfClass class size → IsFreeOf image class at
-chunk_of_class {image} {class} {at} {size} h f of_class =
+pub chunk_of_class : {image : List ℕ} {class at size : ℕ} → HeapAccepted image
+    → IsFreeChunk image at size → IsOfClass class size → IsFreeOf image class at
+chunk_of_class {image} {at} {size} h f of_class =
     record {
       begins = begins_there f;
-      of_class = subst (λ n. IsOfClass class n) (sym (free_there image at size h f).size_field) of_class;
+      of_class = rw (← (free_there image at size h f).size_field) at of_class;
       positive = omega arith;
     }
 
 -- what is not that chunk lies outside of it
-pub taken_outside : {old new heads : List ℕ} {at size : ℕ} → SameChunks old new → IsFreeChunk old at size → AreLists (ButAt at) new heads → AreLists (Outside at size) new heads
-taken_outside {new} {heads} {at} {size} s f lists =
+pub taken_outside : {old new heads : List ℕ} {at size : ℕ} → SameChunks old new
+    → IsFreeChunk old at size → AreLists (ButAt at) new heads → AreLists (Outside at size) new heads
+taken_outside {new} {size} s f lists =
     let g = alike_chunk s f in
-    lists_weaker (ButAt at) (Outside at size) new heads (λ x b apart. others_outside g.before size g.after x s.frame.accepted g.chunks g.there b apart) lists
+    lists_weaker _ _ new _ (λ x b apart. others_outside _ size _ x s.frame.accepted g.chunks g.there b apart) lists
 
 pub linked_past : {old new heads : List ℕ} {class before at word : ℕ} → HeapAccepted old → HasLists old heads → class < class_count → LeadsTo old heads class before at → IsFreeOf old class at → before ≢ 0 → word ≡ second_of old at → word < 2 ^ 32
-    → new ≡ overwritten old (before + 4) (u32_bytes word) → SameChunks old new × AreLists (ButAt at) new heads
+    → new ≡ overwritten old (before + 4) (u32_bytes word)
+    → SameChunks old new × AreLists (ButAt at) new heads
 linked_past {before} {word} h lists below leads f some word_is small is =
     let k = begun_chunk before h (looked_free leads.looking some).begins in
     let l = linked word h k small is in (
@@ -84,4 +92,4 @@ linked_past {before} {word} h lists below leads f some word_is small is =
 
 -- nothing leads to it
 pub linked_nowhere : {image heads : List ℕ} {class before at : ℕ} → HasLists image heads → class < class_count → LeadsTo image heads class before at → IsFreeOf image class at → before ≡ 0 → AreLists (ButAt at) image heads
-linked_nowhere {image} {heads} {class} {at} lists below leads f none = not_listed image heads class at lists below (subst (λ x. Looking image heads class x at) none leads.looking) f.of_class
+linked_nowhere {at} lists below leads f none = not_listed _ _ _ at lists below (rw none at leads.looking) f.of_class

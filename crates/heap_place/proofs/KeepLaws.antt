@@ -1,6 +1,6 @@
 -- What keeps the free chunks with their two words: chunks that are replaced by others keep all but
 -- those among them, and the second word of a free chunk is written.
-use Rattle.heap_place.proofs.Words.{◌≡◌, ◌≢◌, ℕ, ◌+◌, ◌%◌, ◌^◌, ◌<◌, ◌≤◌, List, [], ◌∷◌, ◌++◌, length, refl, sym, ap, subst, ◌∙◌, arith, inl, inr, slice_index, slice_set, u32_at, u32_bytes, overwritten, Chunk, free, total, IsFree, area_start, HeapAccepted, Tiles, IsHeap, chunks_of, EveryPlaced, AnyPlaced, IsFreeAt, BeginsFree, WritesPlain, u32_at-written, chunks_of-tiled, TakesBytes, SpelledAll-takes, EveryPlaced-split, AnyPlaced-left, AnyPlaced-right, AnyPlaced-split, AnyPlaced-mid, Replaces, replaced_total, same_start, wrote_none, wrote_word, wrote_wider, wrote_word_apart, WroteArea, area_replaces, wrote_slots, free_replaced, frame_start, becomes_heap, free_inside, free_word, IsOfClass, class_count, ButAt, Outside, KeepsFree, IsFreeChunk, Links, Pushes, cases_eq}
+use Rattle.heap_place.proofs.Words.{◌≡◌, ◌≢◌, ℕ, ◌+◌, ◌%◌, ◌^◌, ◌<◌, ◌≤◌, List, [], ◌∷◌, ◌++◌, refl, sym, ap, subst, ◌∙◌, arith, inl, inr, slice_index, slice_set, u32_at, u32_bytes, overwritten, Chunk, free, total, IsFree, area_start, HeapAccepted, Tiles, IsHeap, chunks_of, EveryPlaced, AnyPlaced, IsFreeAt, BeginsFree, WritesPlain, u32_at-written, chunks_of-tiled, TakesBytes, SpelledAll-takes, EveryPlaced-split, AnyPlaced-left, AnyPlaced-right, AnyPlaced-split, AnyPlaced-mid, Replaces, replaced_total, same_start, wrote_none, wrote_word, wrote_wider, wrote_word_apart, WroteArea, area_replaces, wrote_slots, free_replaced, frame_start, becomes_heap, free_inside, free_word, IsOfClass, class_count, ButAt, Outside, KeepsFree, IsFreeChunk, Links, Pushes, cases_eq}
 use Rattle.heap_place.proofs.FoundLaws.{heap_in_parts, middle_of, chunk_middle}
 
 -- ---- chunks that are replaced
@@ -11,38 +11,38 @@ NotAmong at mid there = AnyPlaced (IsFreeAt there) at mid → ⊥
 
 pub keeps_tiled : {old new : List ℕ} {before mid others after : List Chunk} {at : ℕ} → chunks_of old ≡ before ++ (mid ++ after) → Tiles new (before ++ (others ++ after)) → Replaces old new before mid others after at
     → KeepsFree (NotAmong at mid) old new
-keeps_tiled {old} {new} {before} {mid} {others} {after} {at} was now r there apart b = elim (AnyPlaced-split (IsFreeAt there) start before (mid ++ after) found) [
-  | inl front ↦ record {
-    begins = is (AnyPlaced-left (IsFreeAt there) start before (others ++ after) front);
-    first = free_word old new there start before r.front.words front;
-    second = r.front.seconds there front;
-  }
-  | inr rest ↦ elim (AnyPlaced-split (IsFreeAt there) (start + total before) mid after rest) [
-    | inl these ↦ absurd (apart (subst (λ n. AnyPlaced (IsFreeAt there) n mid) (sym begins) these))
-    | inr back ↦
-        let behind = subst (λ n. AnyPlaced (IsFreeAt there) (n + total mid) after) (sym begins) back in
-        let moved = subst (λ n. AnyPlaced (IsFreeAt there) (start + total before + n) after) (sym sums) back in
-        record {
-          begins = is (AnyPlaced-right (IsFreeAt there) start before (others ++ after) (AnyPlaced-right (IsFreeAt there) (start + total before) others after moved));
-          first = free_word old new there (at + total mid) after r.back.words behind;
-          second = r.back.seconds there behind;
-        }
-  ]
-] where
-  start : ℕ
-  start = area_start old
+keeps_tiled {old} {new} {before} {mid} {others} {after} {at} was now r there apart b =
+    elim (AnyPlaced-split (IsFreeAt there) start before (mid ++ after) found) [
+      | inl front ↦ record {
+        begins = is (AnyPlaced-left (IsFreeAt there) start before (others ++ after) front);
+        first = free_word old new there start before r.front.words front;
+        second = r.front.seconds there front;
+      }
+      | inr rest ↦ elim (AnyPlaced-split (IsFreeAt there) (start + total before) mid after rest) [
+        | inl these ↦ absurd (apart (subst (λ n. AnyPlaced (IsFreeAt there) n mid) (sym begins) these))
+        | inr back ↦
+            let behind = rw (← begins) at back in let moved = rw (← sums) at back in record {
+              begins = is (AnyPlaced-right (IsFreeAt there) start before (others ++ after) (AnyPlaced-right (IsFreeAt there) (start + total before) others after moved));
+              first = free_word old new there (at + total mid) after r.back.words behind;
+              second = r.back.seconds there behind;
+            }
+      ]
+    ] where
+      start : ℕ
+      start = area_start old
 
-  begins : at ≡ start + total before
-  begins = r.there
+      begins : at ≡ start + total before
+      begins = r.there
 
-  sums : total others ≡ total mid
-  sums = replaced_total old new before mid others after at r
+      sums : total others ≡ total mid
+      sums = replaced_total old new before mid others after at r
 
-  found : AnyPlaced (IsFreeAt there) (area_start old) (before ++ (mid ++ after))
-  found = subst (λ cs. AnyPlaced (IsFreeAt there) (area_start old) cs) was b
+      found : AnyPlaced (IsFreeAt there) (area_start old) (before ++ (mid ++ after))
+      found = subst (λ cs. AnyPlaced (IsFreeAt there) (area_start old) cs) was b
 
-  is : AnyPlaced (IsFreeAt there) (area_start old) (before ++ (others ++ after)) → BeginsFree new there
-  is a = subst (λ n. AnyPlaced (IsFreeAt there) n (chunks_of new)) (sym (same_start old new r.head)) (subst (λ cs. AnyPlaced (IsFreeAt there) (area_start old) cs) (sym (chunks_of-tiled new (before ++ (others ++ after)) now)) a)
+      is : AnyPlaced (IsFreeAt there) (area_start old) (before ++ (others ++ after))
+          → BeginsFree new there
+      is a = rw (← (same_start old new r.head)) at (rw (← (chunks_of-tiled new _ now)) at a)
 
 pub keeps_replaced : (old new : List ℕ) (before mid others after : List Chunk) (at : ℕ) → HeapAccepted old → chunks_of old ≡ before ++ (mid ++ after) → IsHeap new (before ++ (others ++ after)) → Replaces old new before mid others after at
     → KeepsFree (NotAmong at mid) old new
@@ -51,12 +51,13 @@ keeps_replaced old new before mid others after at h was now r = keeps_tiled was 
 -- what lies outside of them is not among them
 pub outside_apart : (image : List ℕ) (before mid after : List Chunk) (at there : ℕ) → IsHeap image (before ++ (mid ++ after)) → at ≡ area_start image + total before → Outside at (total mid) there → NotAmong at mid there
 outside_apart image before mid after at there h is o these =
-    let sizes = SpelledAll-takes image at mid (at + total mid) (middle_of image before mid after at h is).spelled in
+    let sizes = SpelledAll-takes _ at mid _ (middle_of _ _ mid _ at h is).spelled in
     let f = free_inside there at mid sizes these in
     elim o [ inl front ↦ omega arith | inr back ↦ omega arith ]
 
 -- no live chunk is free
-pub live_apart : (at there : ℕ) (c : Chunk) → ((size : ℕ) → c ≡ free size → ⊥) → NotAmong at (c ∷ []) there
+pub live_apart : (at there : ℕ) (c : Chunk) → ((size : ℕ) → c ≡ free size → ⊥)
+    → NotAmong at (c ∷ []) there
 live_apart at there (free size) live these = live size refl
 live_apart at there c live these = elim these [ inl here ↦ here | inr none ↦ none ]
 
@@ -66,26 +67,28 @@ other_apart at size there apart these = elim these [ inl here ↦ apart (sym her
 
 -- a free chunk other than one in parts of the image lies outside of it
 pub others_outside : {image : List ℕ} (before : List Chunk) (size : ℕ) (after : List Chunk) {at : ℕ} (there : ℕ) → HeapAccepted image → chunks_of image ≡ before ++ free size ∷ after → at ≡ area_start image + total before → BeginsFree image there → there ≢ at → Outside at size there
-others_outside {image} before size after there h was is b apart = elim (AnyPlaced-split (IsFreeAt there) (area_start image) before (free size ∷ after) found) [
-  | inl front ↦ let f = free_inside there (area_start image) before sizes.0 front in inl (omega arith)
-  | inr rest ↦ elim rest [
-    | inl here ↦ absurd (apart (omega arith))
-    | inr back ↦ let f = free_inside there (area_start image + total before + size) after sizes.1.1 back in inr (omega arith)
-  ]
-] where
-  found : AnyPlaced (IsFreeAt there) (area_start image) (before ++ free size ∷ after)
-  found = subst (λ cs. AnyPlaced (IsFreeAt there) (area_start image) cs) was b
+others_outside {image} before size after there h was is b apart =
+    elim (AnyPlaced-split (IsFreeAt there) (area_start image) before (free size ∷ after) found) [
+      | inl front ↦ let f = free_inside there _ before sizes.0 front in inl (omega arith)
+      | inr rest ↦ elim rest [
+        | inl here ↦ absurd (apart (omega arith))
+        | inr back ↦ let f = free_inside there _ after sizes.1.1 back in inr (omega arith)
+      ]
+    ] where
+      found : AnyPlaced (IsFreeAt there) (area_start image) (before ++ free size ∷ after)
+      found = subst (λ cs. AnyPlaced (IsFreeAt there) (area_start image) cs) was b
 
-  sizes : EveryPlaced TakesBytes (area_start image) before × EveryPlaced TakesBytes (area_start image + total before) (free size ∷ after)
-  sizes = EveryPlaced-split TakesBytes (area_start image) before (free size ∷ after) (SpelledAll-takes image (area_start image) (before ++ free size ∷ after) (length image) (heap_in_parts image (before ++ free size ∷ after) h was).tiles.area)
+      sizes : EveryPlaced TakesBytes (area_start image) before × EveryPlaced TakesBytes (area_start image + total before) (free size ∷ after)
+      sizes = EveryPlaced-split _ _ _ _ (SpelledAll-takes _ _ _ _ (heap_in_parts _ _ h was).tiles.area)
 
 -- ---- the second word of a free chunk
 
-pub free_there : (image : List ℕ) (at size : ℕ) → HeapAccepted image → IsFreeChunk image at size → IsFree image at size
+pub free_there : (image : List ℕ) (at size : ℕ) → HeapAccepted image → IsFreeChunk image at size
+    → IsFree image at size
 free_there image at size h f = (chunk_middle h f).spelled.0
 
 pub begins_there : {image : List ℕ} {at size : ℕ} → IsFreeChunk image at size → BeginsFree image at
-begins_there {image} {at} {size} f = subst (λ cs. AnyPlaced (IsFreeAt at) (area_start image) cs) (sym f.chunks) (AnyPlaced-mid (IsFreeAt at) (area_start image) f.before (free size) f.after (sym f.there))
+begins_there {image} {at} {size} f = rw (← f.chunks) at (AnyPlaced-mid (IsFreeAt at) (area_start image) f.before (free size) f.after (sym f.there))
 
 pub linked : {old new : List ℕ} {at size : ℕ} (word : ℕ) → HeapAccepted old → IsFreeChunk old at size → word < 2 ^ 32 → new ≡ overwritten old (at + 4) (u32_bytes word) → Links old new at word
 linked {old} {new} {at} {size} word h f small is =
@@ -104,7 +107,8 @@ linked {old} {new} {at} {size} word h f small is =
       inside = subst (λ n. at + size ≤ n) (sym len) was.inside;
     } in
     let area : WroteArea old new at (at + (size + 0)) = record { mid = new; slot = at; area = all; word = wrote_none new at (at + 4); is_slot = inl refl; there = omega arith; fits = omega arith } in
-    let replaces = area_replaces old new f.before (free size ∷ []) (free size ∷ []) f.after at heap.tiles tt f.there m.inside area (spelled, omega arith) in
+    let replaces = area_replaces old new f.before (free size ∷ [])
+    (free size ∷ []) f.after at heap.tiles tt f.there m.inside area (spelled, omega arith) in
     let slots = wrote_slots old new f.before (free size ∷ []) f.after at heap.tiles tt f.there all in
     let now = free_replaced old new f.before (free size ∷ []) (free size ∷ []) f.after at heap replaces slots tt tt in
     let keeps : KeepsFree (ButAt at) old new = λ x apart b. keeps_replaced old new f.before (free size ∷ []) (free size ∷ []) f.after at h f.chunks now replaces x (λ these. elim these [ inl here ↦ apart (sym here) | inr none ↦ none ]) b in
@@ -116,28 +120,29 @@ linked {old} {new} {at} {size} word h f small is =
       second = ap (λ image. u32_at image (at + 4)) is ∙ u32_at-written word (at + 4) old (omega arith) small;
     }
 
-pub links_start : {old new : List ℕ} {at word : ℕ} → Links old new at word → area_start new ≡ area_start old
+pub links_start : {old new : List ℕ} {at word : ℕ} → Links old new at word
+    → area_start new ≡ area_start old
 links_start {old} {new} l = frame_start old new l.frame
 
-pub links_begin : {old new : List ℕ} {at word : ℕ} (there : ℕ) → Links old new at word → BeginsFree new there → BeginsFree old there
-links_begin {old} {new} there l b = subst (λ cs. AnyPlaced (IsFreeAt there) (area_start old) cs) l.chunks (subst (λ n. AnyPlaced (IsFreeAt there) n (chunks_of new)) (links_start l) b)
+pub links_begin : {old new : List ℕ} {at word : ℕ} (there : ℕ) → Links old new at word
+    → BeginsFree new there → BeginsFree old there
+links_begin there l b = rw l.chunks at (rw (links_start l) at b)
 
 pub links_plain : (old new : List ℕ) (at word : ℕ) → Links old new at word → WritesPlain old new
-links_plain old new at word l there b = let was = links_begin there l b in inr (was, l.firsts there was)
+links_plain old new at word l there b = let was = links_begin _ l b in inr (was, l.firsts there was)
 
-pub links_chunk : {old new : List ℕ} {at word there size : ℕ} → Links old new at word → IsFreeChunk old there size → IsFreeChunk new there size
+pub links_chunk : {old new : List ℕ} {at word there size : ℕ} → Links old new at word
+    → IsFreeChunk old there size → IsFreeChunk new there size
 links_chunk {there} l f = record { before = f.before; after = f.after; chunks = l.chunks ∙ f.chunks; there = f.there ∙ ap (λ n. n + total f.before) (sym (links_start l)) }
 
 pub was_pushed : {old new : List ℕ} (heads : List ℕ) {after : List ℕ} {at size class : ℕ} → HeapAccepted old → IsFreeChunk old at size → class < class_count → IsOfClass class size → slice_index heads class < 2 ^ 32 → new ≡ overwritten old (at + 4) (u32_bytes (slice_index heads class)) → after ≡ slice_set heads class at
     → Pushes old new heads after at
 was_pushed {new} heads {at} {size} {class} h f below of_class small is head =
-    let l = linked (slice_index heads class) h f small is in
-    let now = links_chunk l f in
-    let spelled = free_there new at size l.frame.accepted now in
-    record {
+    let l = linked (slice_index heads class) h f small is in let now = links_chunk l f in
+    let spelled = free_there new at size l.frame.accepted now in record {
       class = class;
       below = below;
       links = l;
-      free = record { begins = begins_there now; of_class = subst (λ n. IsOfClass class n) (sym spelled.size_field) of_class; positive = omega arith };
+      free = record { begins = begins_there now; of_class = rw (← spelled.size_field) at of_class; positive = omega arith };
       is_head = head;
     }

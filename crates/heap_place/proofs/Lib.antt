@@ -23,3 +23,4 @@ pub mod SpliceLaws
 pub mod AlikeLaws
 pub mod RegrownLaws
 pub mod NewTables
+pub mod Laws

@@ -4,14 +4,15 @@ use Rattle.chunk_format.specs.declared.header.Header.TheVariants as headers
 
 -- ---- runs that stay below a size
 
-below_prefix : (size begun : ℕ) (c : Chunk) (run after : List Chunk) → AllFree (c ∷ run) → StaysBelow size begun ((c ∷ run) ++ after) → begun + total (c ∷ run) < size
+below_prefix : (size begun : ℕ) (c : Chunk) (run after : List Chunk) → AllFree (c ∷ run)
+    → StaysBelow size begun ((c ∷ run) ++ after) → begun + total (c ∷ run) < size
 below_prefix size begun (free n) [] after f b = omega arith
 below_prefix size begun (free n) (d ∷ run) after f b = let ih = below_prefix size (begun + n) d run after f b.1 in omega arith
 below_prefix size begun c run after f b = absurd f
 
 below_any : (size begun : ℕ) (before : List Chunk) (c : Chunk) (run after : List Chunk) → AllFree (c ∷ run) → StaysBelow size begun (before ++ ((c ∷ run) ++ after)) → total (c ∷ run) < size
-below_any size begun [] c run after f b = let h = below_prefix size begun c run after f b in omega arith
-below_any size begun (free n ∷ before) c run after f b = below_any size (begun + n) before c run after f b.1
+below_any size begun [] c run after f b = let h = below_prefix size _ c run _ f b in omega arith
+below_any size begun (free n ∷ before) c run after f b = below_any size _ before c run after f b.1
 below_any size begun (d ∷ before) c run after f b = below_any size 0 before c run after f b
 
 below_no_run : (size : ℕ) (cs : List Chunk) → 0 < size → StaysBelow size 0 cs → NoRun cs size
@@ -21,12 +22,14 @@ below_no_run size cs some b before (c ∷ run) after e f =
     let low = below_any size 0 before c run after f (subst (λ xs. StaysBelow size 0 xs) e b) in
     omega arith
 
-below_push : (size begun : ℕ) (cs : List Chunk) (c : Chunk) → StaysBelow size begun cs → StaysBelow size (run_behind begun cs) (c ∷ []) → StaysBelow size begun (cs ++ c ∷ [])
+below_push : (size begun : ℕ) (cs : List Chunk) (c : Chunk) → StaysBelow size begun cs
+    → StaysBelow size (run_behind begun cs) (c ∷ []) → StaysBelow size begun (cs ++ c ∷ [])
 below_push size begun [] c b last = last
 below_push size begun (free n ∷ cs) c b last = (b.0, below_push size (begun + n) cs c b.1 last)
 below_push size begun (d ∷ cs) c b last = below_push size 0 cs c b last
 
-behind_push : (begun : ℕ) (cs : List Chunk) (c : Chunk) → run_behind begun (cs ++ c ∷ []) ≡ run_behind (run_behind begun cs) (c ∷ [])
+behind_push : (begun : ℕ) (cs : List Chunk) (c : Chunk)
+    → run_behind begun (cs ++ c ∷ []) ≡ run_behind (run_behind begun cs) (c ∷ [])
 behind_push begun [] c = refl
 behind_push begun (free n ∷ cs) c = behind_push (begun + n) cs c
 behind_push begun (d ∷ cs) c = behind_push 0 cs c
@@ -35,7 +38,8 @@ behind_one : (begun : ℕ) (c : Chunk) → run_behind begun (c ∷ []) ≡ run_b
 behind_one begun (free n) = refl
 behind_one begun c = refl
 
-below_one : (size begun : ℕ) (c : Chunk) → run_by begun (header_of c) < size → StaysBelow size begun (c ∷ [])
+below_one : (size begun : ℕ) (c : Chunk) → run_by begun (header_of c) < size
+    → StaysBelow size begun (c ∷ [])
 below_one size begun (free n) lt = (lt, tt)
 below_one size begun c lt = tt
 
@@ -53,7 +57,7 @@ pub record EndsInRun (image : List ℕ) (at run_size : ℕ) (cs : List Chunk) : 
 -- after a live chunk
 pub live_keeps : (cs : List Chunk) (c : Chunk) → IsNotFree c → KeepsApart (cs ++ c ∷ [])
 live_keeps cs c live others =
-    ap merged (append_assoc cs (c ∷ []) others) ∙ merged-live cs c others live ∙ sym (append_assoc (merged cs) (c ∷ []) (merged others)) ∙ ap (λ xs. xs ++ merged others) (sym (merged-live cs c [] live))
+    ap merged (append_assoc cs (c ∷ []) others) ∙ merged-live cs c _ live ∙ sym (append_assoc (merged cs) (c ∷ []) (merged others)) ∙ ap (λ xs. xs ++ merged others) (sym (merged-live cs c [] live))
 
 pub free_push : (run : List Chunk) (n : ℕ) → AllFree run → AllFree (run ++ free n ∷ [])
 free_push [] n f = tt
@@ -71,25 +75,26 @@ run_push image at run_size cs (free n) next e = record {
 }
 run_push image at run_size cs c next e = record { front = cs ++ c ∷ []; run = []; parts = sym (append-nil _); all_free = tt; sums = refl; apart = live_keeps cs c tt }
 
-pub search_start : (image : List ℕ) (size : ℕ) → 0 < size → area_start image ≤ length image → Searched image size (area_start image) 0
+pub search_start : (image : List ℕ) (size : ℕ) → 0 < size → area_start image ≤ length image
+    → Searched image size (area_start image) 0
 search_start image size some inside = record { front = []; run = []; spelled = refl; all_free = tt; sums = refl; below = tt; ends = refl; inside = inside; small = some; apart = λ others. refl }
 
 -- a chunk stands where the search has come to
-pub search_there : {image : List ℕ} {size at run_size : ℕ} → HeapAccepted image → Searched image size at run_size → at < length image → HasChunk image at
-search_there {image} {at} h s inside = let c = chunk_there image h.0 (s.front ++ s.run) at h.1.tiles s.spelled inside in record { chunk = c.0; spelled = c.1 }
+pub search_there : {image : List ℕ} {size at run_size : ℕ} → HeapAccepted image
+    → Searched image size at run_size → at < length image → HasChunk image at
+search_there {at} h s inside = let c = chunk_there _ h.0 _ at h.1.tiles s.spelled inside in record { chunk = c.0; spelled = c.1 }
 
-pub search_fits : {image : List ℕ} {size at run_size : ℕ} → Searched image size at run_size → run_size ≤ at
+pub search_fits : {image : List ℕ} {size at run_size : ℕ} → Searched image size at run_size
+    → run_size ≤ at
 search_fits {image} {at} s =
     let e = SpelledAll-end image (area_start image) (s.front ++ s.run) at s.spelled in
-    let t = total-append s.front s.run in
-    omega arith
+    let t = total-append s.front s.run in omega arith
 
 pub search_size : {image : List ℕ} {size at run_size : ℕ} {h : Header} → Searched image size at run_size → HasHeader image at h → (8 ≤ size_by h) × (at + size_by h ≤ length image) × (run_by run_size h ≤ at + size_by h)
 search_size {image} {at} {run_size} {h} s found =
     let c = found.chunk in
     let e : size_by h ≡ size_of c = ap size_by found.header_is ∙ size_by-header_of c in
-    let z = Spelled-size image at c found.spelled in
-    let fits = search_fits s in
+    let z = Spelled-size image at c found.spelled in let fits = search_fits s in
     (omega arith, omega arith, within h fits) where
       within : (g : Header) → run_size ≤ at → run_by run_size g ≤ at + size_by g
       within (headers.Free n) fits = omega arith
@@ -104,21 +109,19 @@ pushed {image} {at} {h} s found =
 pushed_run : {image : List ℕ} {size at run_size : ℕ} {h : Header} → (s : Searched image size at run_size) → (found : HasHeader image at h) → EndsInRun image (at + size_by h) (run_by run_size h) ((s.front ++ s.run) ++ found.chunk ∷ [])
 pushed_run {image} {at} {run_size} {h} s found =
     subst (λ g. EndsInRun image (at + size_by h) (run_by run_size g) ((s.front ++ s.run) ++ found.chunk ∷ [])) (sym found.header_is)
-    (run_push image at run_size (s.front ++ s.run) found.chunk (at + size_by h) record { front = s.front; run = s.run; parts = refl; all_free = s.all_free; sums = s.sums; apart = s.apart })
+    (run_push _ at _ _ _ _ record { front = s.front; run = s.run; parts = refl; all_free = s.all_free; sums = s.sums; apart = s.apart })
 
 pub search_more : {image : List ℕ} {size at run_size : ℕ} {h : Header} → Searched image size at run_size → HasHeader image at h → run_by run_size h < size → Searched image size (at + size_by h) (run_by run_size h)
-search_more {image} {size} {at} {run_size} {h} s found small =
-    let c : Chunk = found.chunk in
-    let cs : List Chunk = s.front ++ s.run in
-    let r = pushed_run s found in
-    let z = search_size s found in
+search_more {size} {at} {run_size} {h} s found small =
+    let c : Chunk = found.chunk in let cs : List Chunk = s.front ++ s.run in
+    let r = pushed_run s found in let z = search_size s found in
     let low = subst (λ g. run_by run_size g < size) found.header_is small in
-    let last = subst (λ n. StaysBelow size n (c ∷ [])) (sym s.ends) (below_one size run_size c low) in
-    let ends : run_behind 0 (cs ++ c ∷ []) ≡ run_by run_size h = behind_push 0 cs c ∙ ap (λ n. run_behind n (c ∷ [])) s.ends ∙ behind_one run_size c ∙ sym (ap (run_by run_size) found.header_is) in
+    let last = rw (← s.ends) at (below_one size run_size c low) in
+    let ends = behind_push 0 cs c ∙ ap (λ n. run_behind n (c ∷ [])) s.ends ∙ behind_one _ c ∙ sym (ap (run_by run_size) found.header_is) in
     record {
       front = r.front;
       run = r.run;
-      spelled = subst (λ xs. SpelledAll image (area_start image) xs (at + size_by h)) r.parts (pushed s found);
+      spelled = rw r.parts at (pushed s found);
       all_free = r.all_free;
       sums = r.sums;
       below = subst (λ xs. StaysBelow size 0 xs) r.parts (below_push size 0 cs c s.below last);
@@ -130,15 +133,12 @@ search_more {image} {size} {at} {run_size} {h} s found small =
 
 pub search_found : {image : List ℕ} {size at run_size : ℕ} {h : Header} → HeapAccepted image → Searched image size at run_size → HasHeader image at h → IsRoom image (at + size_by h - run_by run_size h) (run_by run_size h)
 search_found {image} {at} {h} accepted s found =
-    let c : Chunk = found.chunk in
-    let cs : List Chunk = s.front ++ s.run in
-    let r = pushed_run s found in
-    let z = search_size s found in
+    let c : Chunk = found.chunk in let cs : List Chunk = s.front ++ s.run in
+    let r = pushed_run s found in let z = search_size s found in
     let spelled = pushed s found in
     let after = chunks_after image _ (cs ++ c ∷ []) (at + size_by h) accepted.1.tiles spelled z.1 in
     let end = SpelledAll-end image (area_start image) (cs ++ c ∷ []) (at + size_by h) spelled in
-    let split : total (cs ++ c ∷ []) ≡ total r.front + total r.run = ap total r.parts ∙ total-append r.front r.run in
-    record {
+    let split = ap total r.parts ∙ total-append r.front r.run in record {
       before = r.front;
       run = r.run;
       after = after.0;
@@ -150,10 +150,10 @@ search_found {image} {at} {h} accepted s found =
     }
 
 -- at the end none was found
-pub search_none : {image : List ℕ} {size at run_size : ℕ} → HeapAccepted image → 0 < size → Searched image size at run_size → length image ≤ at → NoRun (chunks_of image) size
+pub search_none : {image : List ℕ} {size at run_size : ℕ} → HeapAccepted image → 0 < size
+    → Searched image size at run_size → length image ≤ at → NoRun (chunks_of image) size
 search_none {image} {size} {at} accepted some s beyond =
-    let end : at ≡ length image = omega arith in
-    let cs : List Chunk = s.front ++ s.run in
+    let end : at ≡ length image = omega arith in let cs : List Chunk = s.front ++ s.run in
     let all = subst (λ n. SpelledAll image (area_start image) cs n) end s.spelled in
     let is = chunks_of-area image cs all in
     below_no_run size (chunks_of image) some (subst (λ xs. StaysBelow size 0 xs) (sym is) s.below)

@@ -1,20 +1,15 @@
 -- Counting goes on by a chunk more.
-use Rattle.std.proofs.Common.{◌≡◌, ℕ, ◌+◌, ◌≤◌, List, [], ◌∷◌, cond, refl, ap, ◌∙◌, arith}
-use Rattle.std.specs.Prelude.{sum_by, count_by}
-use Rattle.std.proofs.lemmas.List.Sums.{sum_by-append, sum_by-cons}
-use Rattle.heap_model.specs.Chunk.{Chunk, free, movable, fixed, total, is_movable, is_fixed, free_size}
+use Rattle.mem_manager.proofs.Words.{◌≡◌, ℕ, ◌+◌, ◌≤◌, List, [], ◌∷◌, cond, refl, ap, ◌∙◌, arith, sum_by, count_by, sum_by-append, sum_by-cons, Chunk, free, movable, fixed, total, is_movable, is_fixed, free_size, Passed, passed_at, passed_more, AreCounted}
 use Rattle.chunk_format.specs.declared.header.Header.{Header}
 use Rattle.chunk_format.specs.declared.header.Header.TheVariants as headers
 use Rattle.chunk_format.specs.Header.{size_by, HasHeader}
 use Rattle.heap_check.specs.Survey.{movable_by, fixed_by, free_by}
 use Rattle.heap_check.proofs.SurveyLaws.{movable_of, fixed_of, free_of, count_push}
-use Rattle.heap_place.specs.Search.{Passed}
-use Rattle.heap_place.proofs.WalkLaws.{passed_at, passed_more}
 use Rattle.mem_manager.specs.declared.counting.Counts.{Counts}
-use Rattle.mem_manager.specs.Counting.{AreCounted}
 
 -- there are no more than bytes
-counts_within : (cs : List Chunk) → count_by is_movable cs + count_by is_fixed cs + sum_by free_size cs ≤ total cs
+counts_within : (cs : List Chunk)
+    → count_by is_movable cs + count_by is_fixed cs + sum_by free_size cs ≤ total cs
 counts_within [] = omega arith
 counts_within (c ∷ cs) =
     let m = sum_by-cons (λ (x : Chunk). cond (is_movable x) 1 0) c cs in
@@ -27,14 +22,12 @@ counts_within (c ∷ cs) =
       one (movable bytes lock owner slot) cs ih m f s = omega (arith, ih, m, f, s)
       one (fixed bytes owner) cs ih m f s = omega (arith, ih, m, f, s)
 
-pub counted_within : {image : List ℕ} (counts : Counts) {at : ℕ} → Passed image (AreCounted counts) at → counts.movable + counts.fixed + counts.free ≤ at
+pub counted_within : {image : List ℕ} (counts : Counts) {at : ℕ}
+    → Passed image (AreCounted counts) at → counts.movable + counts.fixed + counts.free ≤ at
 counted_within {image} counts {at} p =
-    let there = passed_at image (AreCounted counts) at p in
-    let within = counts_within p.front in
-    let m = p.holds.movable in
-    let f = p.holds.fixed in
-    let s = p.holds.free in
-    omega (arith, there, within, m, f, s)
+    let there = passed_at image (AreCounted counts) at p in let within = counts_within p.front in
+    let m = p.holds.movable in let f = p.holds.fixed in
+    let s = p.holds.free in omega (arith, there, within, m, f, s)
 
 pub free_fits : (header : Header) → free_by header ≤ size_by header
 free_fits (headers.Free size) = omega arith
@@ -45,15 +38,16 @@ pub counted_more : {image : List ℕ} (was now : Counts) {at : ℕ} {header : He
     → Passed image (AreCounted now) (at + size_by header)
 counted_more {image} was now {at} {header} p has m f s =
     let one = sum_by-cons free_size has.chunk [] in
-    let more : free_by header ≡ free_size has.chunk = ap free_by has.header_is ∙ free_of has.chunk in
-    let movable_more : movable_by header ≡ count_by is_movable (has.chunk ∷ []) = ap movable_by has.header_is ∙ movable_of has.chunk in
-    let fixed_more : fixed_by header ≡ count_by is_fixed (has.chunk ∷ []) = ap fixed_by has.header_is ∙ fixed_of has.chunk in
+    let more : free_by header ≡ free_size has.chunk =
+    ap free_by has.header_is ∙ free_of has.chunk in
+    let movable_more : movable_by header ≡ count_by is_movable (has.chunk ∷ []) =
+    ap movable_by has.header_is ∙ movable_of has.chunk in
+    let fixed_more : fixed_by header ≡ count_by is_fixed (has.chunk ∷ []) =
+    ap fixed_by has.header_is ∙ fixed_of has.chunk in
     let movables = count_push is_movable p.front has.chunk in
     let fixeds = count_push is_fixed p.front has.chunk in
     let frees = sum_by-append free_size p.front (has.chunk ∷ []) in
-    let none : sum_by free_size [] ≡ 0 = refl in
-    let was_m = p.holds.movable in
-    let was_f = p.holds.fixed in
-    let was_s = p.holds.free in
+    let none : sum_by free_size [] ≡ 0 = refl in let was_m = p.holds.movable in
+    let was_f = p.holds.fixed in let was_s = p.holds.free in
     passed_more image (AreCounted was) (AreCounted now) at header p has
     (record { movable = omega (arith, m, was_m, movable_more, movables); fixed = omega (arith, f, was_f, fixed_more, fixeds); free = omega (arith, s, was_s, more, one, none, frees) })

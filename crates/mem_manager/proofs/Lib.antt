@@ -1,3 +1,4 @@
+pub mod Words
 pub mod RememberedNames
 pub mod StepWords
 pub mod ChunkCalls
@@ -13,3 +14,4 @@ pub mod SlidChunks
 pub mod StoreCalls
 pub mod Growth
 pub mod MoreSlots
+pub mod Laws

@@ -1,15 +1,13 @@
 -- The room of the stretch is opened after the chunk, which grows over it.
-use Rattle.heap_compact.proofs.Words.{rules}
-use Rattle.heap_compact.proofs.ResizedLaws.{is_loose, loose_slid, slid_then, slid_alone, opens_slides, fits_opened}
+use Rattle.heap_compact.proofs.Laws.{rules, is_loose, loose_slid, slid_then, slid_alone, opens_slides, fits_opened}
 use Rattle.heap_compact.proofs.growing.grow_in_stretch.Goals as goal
 
 pub grow_named-requires : goal.grow_named-requires
 grow_named-requires c =
     let h = c.holds.ensures.accepted in
-    let slides = opens_slides c.open_behind.new.self.bytes c.requires.fits c.open_behind.ensures.opened in
-    record {
+    let slides = opens_slides _ c.requires.fits c.open_behind.ensures.opened in record {
       loose = loose_slid h slides (is_loose c.args.found h c.requires.found c.requires.unlocked);
-      fits = fits_opened c.open_behind.new.self.bytes h c.requires.found c.requires.fits c.open_behind.ensures.opened;
+      fits = fits_opened _ h c.requires.found c.requires.fits c.open_behind.ensures.opened;
     }
 
 pub returns : goal.returns

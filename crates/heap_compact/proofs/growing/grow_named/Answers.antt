@@ -1,6 +1,5 @@
 -- The chunk grows in place, since what is free after it suffices.
-use Rattle.heap_compact.proofs.Words.{rules, loose_other}
-use Rattle.heap_compact.proofs.ResizedLaws.{one_of, loose_there, loose_lock, grown_resized, resized_named}
+use Rattle.heap_compact.proofs.Laws.{rules, loose_other, one_of, loose_there, loose_lock, grown_resized, resized_named}
 use Rattle.heap_compact.proofs.growing.grow_named.Goals as goal
 
 pub chunk-found-requires : goal.chunk-found-requires

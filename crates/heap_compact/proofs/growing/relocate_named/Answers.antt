@@ -1,6 +1,5 @@
 -- The chunk moves to a free run, since there is one.
-use Rattle.heap_compact.proofs.Words.{rules}
-use Rattle.heap_compact.proofs.ResizedLaws.{one_of, loose_there, loose_lock, moved_resized, resized_here}
+use Rattle.heap_compact.proofs.Laws.{rules, one_of, loose_there, loose_lock, moved_resized, resized_here}
 use Rattle.heap_compact.proofs.growing.relocate_named.Goals as goal
 
 pub chunk-found-requires : goal.chunk-found-requires

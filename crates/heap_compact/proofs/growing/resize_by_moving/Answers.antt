@@ -1,6 +1,5 @@
 -- The chunk moves to a free run, or a stretch is packed for it.
-use Rattle.laws_heap.proofs.Unmoved.{alone_one}
-use Rattle.heap_compact.proofs.ResizedLaws.{run_resized, run_not_short, resized_here}
+use Rattle.heap_compact.proofs.Laws.{alone_one, run_resized, run_not_short, resized_here}
 use Rattle.heap_compact.proofs.growing.resize_by_moving.Goals as goal
 
 pub returns-then-relocate-clause-resized : goal.returns-then-relocate-clause-resized

@@ -1,9 +1,5 @@
 -- The bytes go up in one slide, the free chunk's header is written, and then each chunk is mended.
-use Rattle.heap_compact.proofs.Words.{◌-◌, [], arith, ◌∙◌, part_within, table_within, same_bytes, same_lents}
-use Rattle.heap_compact.proofs.CopyLaws.{lift_bounds, carried_up}
-use Rattle.heap_compact.proofs.LiftLaws.{lift_done}
-use Rattle.heap_compact.proofs.LentLifts.{lifted_within, lifted_holds, table_still}
-use Rattle.heap_compact.proofs.MemoryLaws.{within_misses}
+use Rattle.heap_compact.proofs.Laws.{[], arith, ◌∙◌, part_within, table_within, same_bytes, same_lents, lift_bounds, carried_up, lift_done, lifted_within, lifted_holds, table_still, within_misses}
 use Rattle.heap_compact.proofs.lift.lift.Goals as goal
 
 pub slide-requires : goal.slide-requires
@@ -14,8 +10,7 @@ slide-requires c =
 
 pub write-requires : goal.write-requires
 write-requires c =
-    let b = lift_bounds c.requires.heap.accepted c.requires.behind in
-    record {
+    let b = lift_bounds c.requires.heap.accepted c.requires.behind in record {
       inside = omega (arith, b.up, b.inside, c.slide.ensures.len);
       misses = within_misses _ 8 (lifted_within c.requires.heap c.requires.behind) c.slide.ensures.lent (omega arith) (omega (arith, b.least));
       small = omega (arith, b.most, c.slide.ensures.len);
@@ -29,11 +24,9 @@ overflow_add-end c =
 
 pub mend-requires : goal.mend-requires
 mend-requires c =
-    let b = c.requires.behind in
-    let up = (lift_bounds c.requires.heap.accepted b).up in
+    let b = c.requires.behind in let up = (lift_bounds c.requires.heap.accepted b).up in
     let lifting = carried_up c.requires.heap.accepted b c.slide.ensures.bytes (same_bytes c.write.ensures.after) c.write.ensures.spelled in
-    let same = same_lents c.write.ensures.after ∙ c.slide.ensures.lent in
-    record {
+    let same = same_lents c.write.ensures.after ∙ c.slide.ensures.lent in record {
       carried = record { lift = _; done = []; rest = b.mid; lifting = lifting; ends = omega (arith, b.to) };
       table = table_still c.write.new.region (table_within c.args.region.now c.requires.heap.accepted c.requires.heap.lent) same lifting.len lifting.tables;
       misses = within_misses _ _ (lifted_within c.requires.heap b) same (omega arith) (omega (arith, up));

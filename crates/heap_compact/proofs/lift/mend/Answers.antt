@@ -1,8 +1,6 @@
 -- A walk over the lifted chunks mends one at each step.
-use Rattle.heap_compact.proofs.Words.{◌-◌, refl, sym, subst, ◌∙◌, arith, Lent, Misses}
-use Rattle.std.specs.Prelude.{List}
+use Rattle.heap_compact.proofs.Laws.{refl, ◌∙◌, arith, walk_table, walk_misses}
 use Rattle.heap_compact.proofs.LiftedWalkLaws.{walk_start, walk_more, walk_state, walk_next, walk_on, walk_done}
-use Rattle.heap_compact.proofs.LentLifts.{walk_table, walk_misses}
 use Rattle.heap_compact.proofs.lift.mend.Goals as goal
 
 pub loop-at-init : goal.loop-at-init
@@ -10,17 +8,15 @@ loop-at-init c = (walk_start c.args.region.now.bytes c.args.gap c.args.start c.a
 
 pub mend_one-at-requires : goal.mend_one-at-requires
 mend_one-at-requires c =
-    let i = c.loop-at.invariant in
-    record {
+    let i = c.loop-at.invariant in record {
       carried = walk_next (walk_state i.0 c.requires.carried) (omega arith);
       table = walk_table c.loop-at.region i.0 c.requires.carried i.2 c.requires.table;
       misses = walk_misses c.loop-at.region.lents i.0 c.requires.carried (omega arith)
-          (subst (λ (x : List Lent). Misses x c.args.start (c.args.end - c.args.start)) (sym i.2) c.requires.misses);
+          (rw (← i.2) at c.requires.misses);
     }
 
 pub overflow_add-at : goal.overflow_add-at
 overflow_add-at c =
-    let fits = c.ranges.end.fits in
     let next = walk_on
     (walk_state c.loop-at.invariant.0 c.requires.carried) (omega arith) c.mend_one-at.ensures.mended in
     omega (arith, next.1)

@@ -1,7 +1,6 @@
 -- A movable chunk names its slot again, and the slot gets its new place; any other chunk stays as it is.
-use Rattle.heap_compact.proofs.Words.{◌-◌, arith, same_bytes, same_lents}
+use Rattle.heap_compact.proofs.Laws.{arith, same_bytes, same_lents, slot_again_within}
 use Rattle.heap_compact.proofs.MendLaws.{next_of, mends, stepped_kept}
-use Rattle.heap_compact.proofs.LentLifts.{slot_again_within}
 use Rattle.heap_compact.proofs.lift.mend_one.Goals as goal
 
 pub at_with_size-header-requires-clause-chunk : goal.at_with_size-header-requires-clause-chunk
@@ -25,7 +24,7 @@ pub set-requires : goal.set-requires
 set-requires c =
     let m = mends _ c.requires.carried.lifting c.at_with_size-header.ensures.header c.at_with_size-header.ensures.size c.in-Movable.is in
     let t = m.can.table _ (same_bytes c.put_slot.ensures.after) in
-    record { slot = t.1; within = slot_again_within c.put_slot.new.region c.requires.table m.can.is_slot (same_lents c.put_slot.ensures.after) t.0 t.1 }
+    record { slot = t.1; within = slot_again_within _ c.requires.table m.can.is_slot (same_lents c.put_slot.ensures.after) t.0 t.1 }
 
 pub returns-in-Movable-clause-mended : goal.returns-in-Movable-clause-mended
 returns-in-Movable-clause-mended c = λ lift done chunk rest l.

@@ -1,10 +1,9 @@
 -- Room is found, or made by packing one stretch, or no stretch has it.
-use Rattle.heap_compact.proofs.Words.{spot_not_short}
-use Rattle.heap_compact.proofs.MadeRoomLaws.{slides_nothing, moves_none}
+use Rattle.heap_compact.proofs.Laws.{spot_not_short, slides_nothing, moves_none}
 use Rattle.heap_compact.proofs.making.make_room.Goals as goal
 
 pub returns-in-Some-clause-not_short : goal.returns-in-Some-clause-not_short
-returns-in-Some-clause-not_short c = spot_not_short _ _ _ c.args.size c.requires.some_size c.in-Some.ensures.room c.in-Some.ensures.enough
+returns-in-Some-clause-not_short c = spot_not_short _ _ _ _ c.requires.some_size c.in-Some.ensures.room c.in-Some.ensures.enough
 
 pub returns-in-Some-clause-slides : goal.returns-in-Some-clause-slides
 returns-in-Some-clause-slides c = slides_nothing _ c.holds.ensures.accepted

@@ -17,7 +17,8 @@ returns-clause-not_short c short =
 pub returns-clause-slides : goal.returns-clause-slides
 returns-clause-slides c =
     let r = c.in_ok-stretch.ensures.room in
-    packs_one _ _ r.before r.mid r.after r.is.whole.chunks r.is.whole.none_stays (c.pack_stretch-room.ensures.packed r.before r.mid r.after r.is)
+    packs_one _ _ r.before r.mid r.after r.is.whole.chunks r.is.whole.none_stays
+    (c.pack_stretch-room.ensures.packed r.before r.mid r.after r.is)
 
 pub returns-clause-once : goal.returns-clause-once
 returns-clause-once c =

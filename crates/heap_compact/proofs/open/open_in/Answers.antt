@@ -1,16 +1,13 @@
 -- The packed stretch has its room at its end, and later chunks are lifted over it.
-use Rattle.heap_compact.proofs.Words.{◌-◌, ◌≤◌, arith, moved_within, table_within, same_lents, ◌∙◌}
-use Rattle.heap_compact.proofs.ExactLaws.{exactly_linked}
-use Rattle.heap_compact.proofs.StretchLaws.{StretchPacked, pack_facts, stretch_run, among_stretch, packed_frame, slot_then, numbers, room_behind, OpensRoom, opened_some, opened_none}
-use Rattle.heap_compact.proofs.LiftLaws.{lifted_room}
-use Rattle.heap_compact.proofs.MemoryLaws.{same_slid}
+use Rattle.heap_compact.proofs.Laws.{◌-◌, ◌≤◌, arith, moved_within, table_within, same_lents, ◌∙◌, exactly_linked, StretchPacked, pack_facts, stretch_run, among_stretch, packed_frame, slot_then, numbers, room_behind, OpensRoom, opened_some, opened_none, lifted_room, same_slid}
 use Rattle.heap_compact.proofs.open.open_in.Goals.{After-pack-room, After-push_alone}
 use Rattle.heap_compact.proofs.open.open_in.Goals as goal
 
 abbrev packed : (c : After-pack-room) → StretchPacked c.args.region.now.bytes c.pack-room.new.region.bytes (c.args.found.place.0 - 8) c.args.found.name.0 c.args.found.length c.args.stretch c.pack-room.result.room
 packed c = pack_facts c.requires.heap c.requires.among c.pack-room.ensures.packed c.pack-room.ensures.room
 
-slid_few : (c : After-pack-room) → c.pack-room.result.slid ≤ c.args.stretch.end - c.args.stretch.start
+slid_few : (c : After-pack-room)
+    → c.pack-room.result.slid ≤ c.args.stretch.end - c.args.stretch.start
 slid_few c =
     let s = among_stretch c.requires.among in
     omega (arith, c.pack-room.ensures.moved (stretch_run s.is), moved_within 0 s.mid, s.is.to)
@@ -28,7 +25,7 @@ pack-room-requires-clause-run c = stretch_run c.requires.among.is
 pub word_of-place-requires : goal.word_of-place-requires
 word_of-place-requires c =
     let p = packed (goal.at.word_of-place-requires c).After-pack-room in
-    record { table = table_within c.pack-room.new.region (packed_frame p).accepted c.pack-room.ensures.heap.lent; slot = slot_then p }
+    record { table = table_within _ (packed_frame p).accepted c.pack-room.ensures.heap.lent; slot = slot_then p }
 
 pub overflow_sub-behind : goal.overflow_sub-behind
 overflow_sub-behind c =
@@ -50,14 +47,14 @@ overflow_sub-stretch c = (numbers (packed (goal.at.overflow_sub-stretch c).After
 
 pub lift-requires-clause-behind : goal.lift-requires-clause-behind
 lift-requires-clause-behind c =
-    room_behind (packed (goal.at.lift-requires-clause-behind c).After-pack-room) _ (omega arith) (omega (arith, c.word_of-place.ensures, c.size_of_body.ensures))
+    room_behind (packed (goal.at.lift-requires-clause-behind c).After-pack-room) _ (omega arith)
+    (omega (arith, c.word_of-place.ensures, c.size_of_body.ensures))
 
 pub returns-then-room-gt0 : goal.returns-then-room-gt0
 returns-then-room-gt0 c =
     let p = (goal.at.returns-then-room-gt0 c).After-pack-room in
     let o = opens (goal.at.returns-then-room-gt0 c).After-push_alone in
-    let last = c.push_alone.ensures in
-    record {
+    let last = c.push_alone.ensures in record {
       lists = last.lists;
       opened = o.opened_behind;
       exact = o.exact;
@@ -71,8 +68,7 @@ returns-then-room-gt0 c =
 pub returns-else-room-gt0 : goal.returns-else-room-gt0
 returns-else-room-gt0 c =
     let p = (goal.at.returns-else-room-gt0 c).After-pack-room in
-    let o = opened_none (packed p) (omega arith) in
-    let last = c.pack-room.ensures in
+    let o = opened_none (packed p) (omega arith) in let last = c.pack-room.ensures in
     record { lists = last.lists; opened = o.opened_behind; exact = o.exact; frame = o.frame; plain = o.plain; out = last.out; few = omega (arith, slid_few p, last.slid); heap = last.heap }
 
 pub push_alone-requires-clause-free : goal.push_alone-requires-clause-free

@@ -1,7 +1,5 @@
 -- All chunks are a run, so packing that run packs the heap.
-use Rattle.heap_compact.proofs.Words.{sym, ◌∙◌, packed, packed_moved}
-use Rattle.heap_compact.proofs.ExactLaws.{exactly_becomes}
-use Rattle.heap_compact.proofs.PackLaws.{run_whole, compacted}
+use Rattle.heap_compact.proofs.Laws.{sym, ◌∙◌, packed_moved, exactly_becomes, run_whole, compacted}
 use Rattle.heap_compact.proofs.pack.compact.Goals as goal
 
 pub pack-requires-clause-run : goal.pack-requires-clause-run

@@ -1,12 +1,9 @@
 -- Each step packs one more chunk of the run, and the last room goes into its list.
-use Rattle.heap_compact.proofs.Words.{ℕ, List, ◌-◌, sym, subst, ◌∙◌, arith, refl, packed, AreLists, Before, new_lists, lists_any, same_lents}
-use Rattle.heap_compact.proofs.ExactLaws.{exactly_linked}
-use Rattle.heap_compact.proofs.PackLaws.{packing_start, packing_more, packing_next, packing_on, packing_done, room_packed}
-use Rattle.heap_compact.proofs.MemoryLaws.{same_slid}
+use Rattle.heap_compact.proofs.Laws.{◌-◌, ◌∙◌, arith, refl, Before, new_lists, lists_any, same_lents, exactly_linked, packing_start, packing_more, packing_next, packing_on, packing_done, room_packed, same_slid}
 use Rattle.heap_compact.proofs.pack.pack.Goals as goal
 
 pub loop-at-init : goal.loop-at-init
-loop-at-init c = (packing_start c.args.start c.args.end c.requires.heap.accepted, omega arith, subst (λ (heads : List ℕ). AreLists (Before (c.args.start - 0)) c.args.region.now.bytes heads) (sym c.empty.ensures) (new_lists (Before (c.args.start - 0)) c.args.region.now.bytes), c.requires.heap, refl)
+loop-at-init c = (packing_start _ _ c.requires.heap.accepted, omega arith, rw (← c.empty.ensures) at (new_lists (Before (c.args.start - 0)) c.args.region.now.bytes), c.requires.heap, refl)
 
 pub pack_one-step-requires-clause-behind : goal.pack_one-step-requires-clause-behind
 pack_one-step-requires-clause-behind c = packing_next c.loop-at.invariant.0 c.requires.run (omega arith)
@@ -38,16 +35,13 @@ loop-at-preserved c =
 
 pub push_room-requires : goal.push_room-requires
 push_room-requires c =
-    let i = c.loop-at.invariant in
-    let room = room_packed i.0 c.requires.run in
+    let i = c.loop-at.invariant in let room = room_packed i.0 c.requires.run in
     record { heap = i.3; within = room.0; free = room.1; lists = i.2 }
 
 pub returns : goal.returns
 returns c =
-    let i = c.loop-at.invariant in
-    let all = packing_done i.0 (omega arith) in
-    let p = c.push_room.ensures in
-    record {
+    let i = c.loop-at.invariant in let all = packing_done i.0 (omega arith) in
+    let p = c.push_room.ensures in record {
       lists = lists_any _ _ _ p.lists;
       packed = λ run. exactly_linked (all run).becomes p.same;
       moved = λ run. (all run).moved_is;

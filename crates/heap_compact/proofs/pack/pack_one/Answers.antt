@@ -1,10 +1,6 @@
 -- A chunk is joined with the room before it, stays after it, or goes down over it.
-use Rattle.heap_compact.proofs.Words.{◌+◌, ◌-◌, inl, inr, ap, ◌∙◌, arith, sym, size_by, Before, lists_weaker, same_bytes, same_lents}
-use Rattle.heap_compact.proofs.PackLaws.{behind_spelled, join_writable, packed_free, free_keeps, room_in_front, slot_there, droppable, packed_movable, packed_kept, kept_linked, behind_misses, join_misses}
-use Rattle.heap_place.proofs.GatherLaws.{kept_lists}
-use Rattle.heap_compact.proofs.LentRuns.{packed_holds}
+use Rattle.heap_compact.proofs.Laws.{inl, inr, ap, ◌∙◌, arith, sym, size_by, lists_weaker, same_bytes, same_lents, behind_spelled, join_writable, packed_free, free_keeps, room_in_front, slot_there, droppable, packed_movable, packed_kept, kept_linked, behind_misses, join_misses, kept_lists, packed_holds}
 use Rattle.heap_compact.proofs.pack.pack_one.Goals as goal
-use Rattle.heap_compact.proofs.pack.pack_one.Goals.{then-stays-via-then-stays, then-stays-via-else-stays+then-room-eq0}
 
 pub at_with_size-header-requires : goal.at_with_size-header-requires
 at_with_size-header-requires c =
@@ -29,7 +25,7 @@ returns-in-Free-clause-packed c = λ b.
 
 pub returns-in-Free-clause-lists : goal.returns-in-Free-clause-lists
 returns-in-Free-clause-lists c =
-    kept_lists _ _ _ (c.args.at - c.args.room) (c.args.at + c.at_with_size-header.result.1 - (c.args.room + c.at_with_size-header.result.1)) (omega arith)
+    kept_lists _ _ _ _ _ (omega arith)
     (free_keeps c.requires.heap.accepted c.requires.behind
     (rw c.in-Free.is at c.at_with_size-header.ensures.header) (c.at_with_size-header.ensures.size ∙ ap size_by c.in-Free.is)
     (same_bytes c.write.ensures.after) c.write.ensures.spelled) c.requires.lists
@@ -51,30 +47,32 @@ returns-then-stays-clause-packed c = λ b.
     kept_linked
     (packed_kept c.requires.heap.accepted b c.at_with_size-header.ensures.header c.in_default.not-Free c.at_with_size-header.ensures.size
     (elim c.then-stays.branch [
-      | then-stays-via-then-stays w ↦ inl (c.stays.ensures.0 w.if-stays.true)
-      | then-stays-via-else-stays+then-room-eq0 w ↦ inr (λ stay. let is = c.stays.ensures.1 stay in let isnt = w.if-stays.false in cc, omega arith)
+      | goal.then-stays-via-then-stays w ↦ inl (c.stays.ensures.0 w.if-stays.true)
+      | goal.then-stays-via-else-stays+then-room-eq0 w ↦ inr (λ stay. let is = c.stays.ensures.1 stay in let isnt = w.if-stays.false in cc, omega arith)
     ])) c.push_room.ensures.same
 
 pub returns-then-stays-clause-lists : goal.returns-then-stays-clause-lists
 returns-then-stays-clause-lists c =
-    lists_weaker _ (Before (c.args.at + c.at_with_size-header.result.1 - 0)) _ _ (λ x b before. omega arith) c.push_room.ensures.lists
+    lists_weaker _ _ _ _ (λ x b before. omega arith) c.push_room.ensures.lists
 
 -- ---- one that goes down
 
 pub unwrap-slot-requires : goal.unwrap-slot-requires
 unwrap-slot-requires c =
-    rw c.slot_of.ensures (slot_there c.at_with_size-header.result.0 c.in_default.not-Free (λ stay. let is = c.stays.ensures.1 stay in let isnt = c.if-stays.false in cc))
+    rw c.slot_of.ensures (slot_there _ c.in_default.not-Free (λ stay. let is = c.stays.ensures.1 stay in let isnt = c.if-stays.false in cc))
 
 pub drop_one-requires-clause-drops : goal.drop_one-requires-clause-drops
 drop_one-requires-clause-drops c =
-    droppable c.requires.heap.accepted c.requires.behind c.at_with_size-header.ensures.header (λ stay. let is = c.stays.ensures.1 stay in let isnt = c.if-stays.false in cc)
+    droppable c.requires.heap.accepted c.requires.behind c.at_with_size-header.ensures.header
+    (λ stay. let is = c.stays.ensures.1 stay in let isnt = c.if-stays.false in cc)
     (sym c.slot_of.ensures ∙ c.unwrap-slot.ensures) c.at_with_size-header.ensures.size (omega arith)
 
 pub returns-clause-packed : goal.returns-clause-packed
 returns-clause-packed c = λ b.
-    packed_movable c.requires.heap.accepted b c.at_with_size-header.ensures.header (λ stay. let is = c.stays.ensures.1 stay in let isnt = c.if-stays.false in cc)
+    packed_movable c.requires.heap.accepted b c.at_with_size-header.ensures.header
+    (λ stay. let is = c.stays.ensures.1 stay in let isnt = c.if-stays.false in cc)
     (sym c.slot_of.ensures ∙ c.unwrap-slot.ensures) c.at_with_size-header.ensures.size (omega arith) c.drop_one.ensures.dropped
 
 pub returns-clause-lists : goal.returns-clause-lists
 returns-clause-lists c =
-    kept_lists _ _ _ (c.args.at - c.args.room) (c.args.at + c.at_with_size-header.result.1 - c.args.room) (omega arith) c.drop_one.ensures.keeps c.requires.lists
+    kept_lists _ _ _ _ _ (omega arith) c.drop_one.ensures.keeps c.requires.lists

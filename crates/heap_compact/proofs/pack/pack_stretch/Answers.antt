@@ -1,7 +1,5 @@
 -- A whole stretch is a run, so packing the run packs the stretch.
-use Rattle.heap_compact.proofs.Words.{arith}
-use Rattle.heap_compact.proofs.ExactLaws.{exactly_becomes}
-use Rattle.heap_compact.proofs.StretchLaws.{stretch_run, room_left, packed_end}
+use Rattle.heap_compact.proofs.Laws.{arith, exactly_becomes, stretch_run, room_left, packed_end}
 use Rattle.heap_compact.proofs.pack.pack_stretch.Goals as goal
 
 pub pack-requires-clause-run : goal.pack-requires-clause-run
@@ -9,11 +7,8 @@ pack-requires-clause-run c = stretch_run c.requires.stretch.is
 
 pub returns : goal.returns
 returns c =
-    let s = c.requires.stretch in
-    let p = c.pack.ensures in
-    let room = room_left c.args.stretch p.room in
-    let here = p.packed (stretch_run s.is) in
-    record {
+    let s = c.requires.stretch in let p = c.pack.ensures in
+    let room = room_left c.args.stretch p.room in let here = p.packed (stretch_run s.is) in record {
       lists = p.lists;
       packed = λ before mid after x. exactly_becomes (p.packed (stretch_run x));
       room = record { all_room = room; at_end = λ some. packed_end s.is here (room s.before s.mid s.after s.is) };

@@ -1,6 +1,5 @@
 -- The header of a movable chunk replaces the fixed one's, and the empty slot gets its place.
-use Rattle.heap_compact.proofs.Words.{inl, refl, arith, rules, ◌∙◌, found_inside, slot_still_within, one_within, one_altered_lends, name_size, same_bytes, same_lents}
-use Rattle.heap_compact.proofs.RelocateLaws.{named_there, named_writable, header_table}
+use Rattle.heap_compact.proofs.Laws.{inl, refl, arith, rules, ◌∙◌, found_inside, slot_still_within, one_within, one_altered_lends, name_size, same_bytes, same_lents, named_there, named_writable, header_table}
 use Rattle.heap_compact.proofs.relocate.take_name.Goals as goal
 
 pub write-requires : goal.write-requires
@@ -21,8 +20,7 @@ set-requires c =
 pub returns : goal.returns
 returns c =
     let n = named_there c.args.there c.requires.heap.accepted c.requires.found c.requires.fixed c.requires.slot c.requires.empty (same_bytes c.write.ensures.after) c.write.ensures.spelled (same_bytes c.set.ensures.after) in
-    let same = same_lents c.set.ensures.after ∙ same_lents c.write.ensures.after in
-    record {
+    let same = same_lents c.set.ensures.after ∙ same_lents c.write.ensures.after in record {
       made = n.0;
       keeps = n.2;
       plain = n.1;

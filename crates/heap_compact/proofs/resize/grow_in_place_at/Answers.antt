@@ -15,11 +15,11 @@ overflow_add-found c =
     omega (arith, c.requires.heap.accepted.1.tiles.head.most)
 
 pub free_run-behind-requires-clause-bound : goal.free_run-behind-requires-clause-bound
-free_run-behind-requires-clause-bound c = bound_behind c.args.region.now.bytes c.args.found _ c.size_of_body-own.ensures c.requires.found
+free_run-behind-requires-clause-bound c = bound_behind _ _ _ c.size_of_body-own.ensures c.requires.found
 
 pub overflow_add-own : goal.overflow_add-own
 overflow_add-own c =
-    let f = in_place_facts _ c.args.found _ c.free_run-behind.result c.requires.heap.accepted c.requires.found c.size_of_body-own.ensures c.free_run-behind.ensures in
+    let f = in_place_facts _ _ _ _ c.requires.heap.accepted c.requires.found c.size_of_body-own.ensures c.free_run-behind.ensures in
     omega (arith, f.0, f.1)
 
 pub resize_listed-requires-clause-behind : goal.resize_listed-requires-clause-behind
@@ -34,18 +34,14 @@ returns-in-Some-clause-grown c =
 
 pub returns-in-Some-clause-tells : goal.returns-in-Some-clause-tells
 returns-in-Some-clause-tells c =
-    let is = c.in-Some.ensures.1 in
-    let enough = c.if-size-own.true in
-    in_place_yes c.args.region.now.bytes c.args.found c.args.count _ c.free_run-behind.result c.size_of_body-own.ensures c.free_run-behind.ensures (omega arith)
+    in_place_yes _ _ _ _ _ c.size_of_body-own.ensures c.free_run-behind.ensures (omega arith)
 
 pub returns-in_default-clause-tells : goal.returns-in_default-clause-tells
 returns-in_default-clause-tells c =
-    let is = c.in-Some.ensures.1 in
-    let short = c.if-size-own.false in
-    in_place_no c.args.region.now.bytes c.args.found c.args.count _ c.free_run-behind.result c.size_of_body-own.ensures c.free_run-behind.ensures (omega arith)
+    in_place_no _ _ _ _ _ c.size_of_body-own.ensures c.free_run-behind.ensures (omega arith)
 
 pub returns-in_default-2-clause-tells : goal.returns-in_default-2-clause-tells
 returns-in_default-2-clause-tells c =
-    let f = in_place_facts _ c.args.found _ c.free_run-behind.result c.requires.heap.accepted c.requires.found c.size_of_body-own.ensures c.free_run-behind.ensures in
+    let f = in_place_facts _ _ _ _ c.requires.heap.accepted c.requires.found c.size_of_body-own.ensures c.free_run-behind.ensures in
     let inside = f.0 in let most = f.1 in let beyond = c.in_default.ensures in
-    in_place_no c.args.region.now.bytes c.args.found c.args.count _ c.free_run-behind.result c.size_of_body-own.ensures c.free_run-behind.ensures (grind arith)
+    in_place_no _ _ _ _ _ c.size_of_body-own.ensures c.free_run-behind.ensures (grind arith)

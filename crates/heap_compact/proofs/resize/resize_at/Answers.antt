@@ -1,14 +1,11 @@
 -- Zeros, the header of the rest and the chunk's own header are written.
-use Rattle.heap_compact.proofs.Words.{◌-◌, ap, sym, subst, arith, rules, ◌∙◌, RunBehind, size_by, IsWritableHeader, rest_length, run_facts, sized_writable, WasResized, resized_by, part_within, found_size, same_bytes, same_lents}
-use Rattle.heap_place.proofs.RegrownLaws.{resized_keeps, resized_rest}
-use Rattle.heap_compact.proofs.LentRuns.{regrown_within, resized_holds, resized_total, length_size}
-use Rattle.heap_compact.proofs.MemoryLaws.{within_misses}
+use Rattle.heap_compact.proofs.Laws.{ap, sym, arith, rules, ◌∙◌, RunBehind, size_by, rest_length, run_facts, sized_writable, WasResized, resized_by, part_within, found_size, same_bytes, same_lents, resized_keeps, resized_rest, regrown_within, resized_holds, resized_total, length_size, within_misses}
 use Rattle.heap_compact.proofs.resize.resize_at.Goals.{After-write}
 use Rattle.heap_compact.proofs.resize.resize_at.Goals as goal
 
 resized : (c : After-write) (r : RunBehind c.args.region.now.bytes c.args.found c.args.behind) → WasResized c.args.region.now.bytes c.write.new.region.bytes c.args.found c.args.count c.args.behind r
 resized c r =
-    resized_by _ _ c.write_rest.new.region.bytes _ _ c.args.count _ _ _ _ _ c.requires.heap.accepted r c.requires.fits
+    resized_by _ _ _ _ _ _ _ _ _ _ _ c.requires.heap.accepted r c.requires.fits
     c.size_of_body-size.ensures c.size_of_body.ensures c.saturating_sub-gained.ensures c.header_with.ensures
     (same_bytes c.fill.ensures.after) c.write_rest.ensures.wrote (same_bytes c.write.ensures.after) c.write.ensures.spelled
 
@@ -42,8 +39,7 @@ overflow_add-at c =
 
 pub write_rest-requires : goal.write_rest-requires
 write_rest-requires c =
-    let f = run_facts _ _ _ c.requires.heap.accepted c.requires.behind in
-    record {
+    let f = run_facts _ _ _ c.requires.heap.accepted c.requires.behind in record {
       inside = omega (arith, f.inside, c.requires.fits, c.size_of_body.ensures, c.size_of_body-size.ensures, c.fill.ensures.len);
       whole = omega (arith, f.whole, c.requires.fits, c.size_of_body.ensures, c.size_of_body-size.ensures);
       small = omega (arith, f.most, c.fill.ensures.len);
@@ -59,19 +55,17 @@ write-requires c =
     let len = rest_length _ _ _ _ c.write_rest.ensures.wrote (omega arith) (omega arith) in
     let is = ap size_by c.header_with.ensures in
     let w = sized_writable _ _ c.args.count _ c.requires.heap.accepted c.requires.behind c.requires.fits in
-    let takes = w.1 in
-    record {
+    let takes = w.1 in record {
       inside = omega arith;
       misses = within_misses _ _ (regrown_within c.requires.heap c.requires.behind c.requires.other)
           (same_lents c.write_rest.ensures.rest ∙ same_lents c.fill.ensures.after) (omega arith) (omega arith);
       small = omega arith;
-      writable = subst (λ h. IsWritableHeader (c.args.found.place.0 - 8) h) (sym c.header_with.ensures) w.0;
+      writable = rw (← c.header_with.ensures) at w.0;
     }
 
 pub returns : goal.returns
 returns c =
-    let after = (goal.at.returns c).After-write in
-    let b = c.requires.behind in
+    let after = (goal.at.returns c).After-write in let b = c.requires.behind in
     let x = resized after b in
     let same = same_lents c.write.ensures.after ∙ same_lents c.write_rest.ensures.rest ∙ same_lents c.fill.ensures.after in
     let size = found_size c.args.region.now.bytes c.args.found b.one in

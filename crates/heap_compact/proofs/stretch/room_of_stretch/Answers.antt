@@ -14,13 +14,9 @@ at_with_size-header-requires c =
 
 pub overflow_add-room : goal.overflow_add-room
 overflow_add-room c =
-    let most = c.requires.heap.accepted.1.tiles.head.most in
     let fits = summed_fits c.requires.heap.accepted c.loop-at.invariant c.loop-at-test.true c.requires.stretch c.at_with_size-header.ensures.header in
-    let low = fits.0 in
-    let inside = fits.1 in
     let within = free_fits_by c.at_with_size-header.result.0 in
-    let more = c.size_if_free-room.ensures in
-    omega arith
+    let more = c.size_if_free-room.ensures in omega arith
 
 pub loop-at-preserved : goal.loop-at-preserved
 loop-at-preserved c =

@@ -1,9 +1,6 @@
 -- The stretch begins after the last chunk that stays, and ends with the first one after the chunk.
-use Rattle.heap_compact.proofs.Words.{◌+◌, ◌++◌, ◌-◌, sym, subst, arith, SeenUpTo, walked_misses}
-use Rattle.heap_compact.proofs.SeenLaws.{unlocked, seen_start, seen_chunk, seen_more, seen_stay, seen_found, seen_all}
-use Rattle.heap_compact.proofs.StretchLaws.{among_stretch}
+use Rattle.heap_compact.proofs.Laws.{◌+◌, ◌++◌, ◌-◌, sym, subst, arith, SeenUpTo, walked_misses, unlocked, seen_start, seen_chunk, seen_more, seen_stay, seen_found, seen_all, among_stretch}
 use Rattle.heap_compact.proofs.stretch.stretch_around.Goals as goal
-use Rattle.heap_compact.proofs.stretch.stretch_around.Goals.{then-stays+else-here-at, else-stays}
 
 pub loop-here-init : goal.loop-here-init
 loop-here-init c =
@@ -11,8 +8,7 @@ loop-here-init c =
 
 pub at_with_size-header-requires : goal.at_with_size-header-requires
 at_with_size-header-requires c =
-    let chunk = seen_chunk c.requires.heap.accepted c.loop-here.invariant (omega arith) in
-    record {
+    let chunk = seen_chunk c.requires.heap.accepted c.loop-here.invariant (omega arith) in record {
       chunk = record { chunk = chunk.0; spelled = chunk.1 };
       small = omega (arith, c.requires.heap.accepted.1.tiles.head.most);
       misses = walked_misses c.args.region.now (c.loop-here.invariant.closed ++ c.loop-here.invariant.run) c.loop-here.here c.requires.heap.accepted c.requires.heap.lent c.loop-here.invariant.spelled (omega arith);
@@ -26,14 +22,14 @@ returns-then-here-at c =
 
 pub loop-here-preserved : goal.loop-here-preserved
 loop-here-preserved c = elim c.if-stays.branch [
-  | then-stays+else-here-at w ↦
+  | goal.then-stays+else-here-at w ↦
       let stop = w.if-here-at.false in
       subst (λ n. SeenUpTo c.args.region.now.bytes (c.args.found.place.0 - 8) n (c.loop-here.here + c.at_with_size-header.result.1)) (sym w.start-is)
       (seen_stay c.requires.heap.accepted (unlocked _ _ c.requires.found c.requires.unlocked) c.loop-here.invariant
       c.at_with_size-header.ensures.header c.at_with_size-header.ensures.size (c.stays.ensures.0 w.if-stays.true) (omega (arith, stop)))
-  | else-stays w ↦
+  | goal.else-stays w ↦
       subst (λ n. SeenUpTo c.args.region.now.bytes (c.args.found.place.0 - 8) n (c.loop-here.here + c.at_with_size-header.result.1)) (sym w.start-is)
-      (seen_more c.args.region.now.bytes (c.args.found.place.0 - 8) c.loop-here.start c.loop-here.here c.at_with_size-header.result.1 c.at_with_size-header.result.0 c.loop-here.invariant c.at_with_size-header.ensures.header c.at_with_size-header.ensures.size (λ stay. let is = c.stays.ensures.1 stay in let isnt = w.if-stays.false in cc))
+      (seen_more _ _ _ _ _ _ c.loop-here.invariant c.at_with_size-header.ensures.header c.at_with_size-header.ensures.size (λ stay. let is = c.stays.ensures.1 stay in let isnt = w.if-stays.false in cc))
 ]
 
 pub returns : goal.returns

@@ -3,7 +3,6 @@ use Rattle.heap_compact.proofs.Words.{◌+◌, ◌++◌, sym, subst, arith, Seen
 use Rattle.heap_compact.proofs.SeenLaws.{seen_chunk, seen_size}
 use Rattle.heap_compact.proofs.RoomyLaws.{rooms_start, rooms_more, rooms_closed, rooms_low, room_found, room_last, room_none, room_stretch}
 use Rattle.heap_compact.proofs.stretch.stretch_with_room.Goals as goal
-use Rattle.heap_compact.proofs.stretch.stretch_with_room.Goals.{then-stays+else-room-size, else-stays}
 
 pub loop-here-init : goal.loop-here-init
 loop-here-init c = rooms_start c.args.size c.requires.heap.accepted c.area_start-here.ensures
@@ -28,10 +27,10 @@ returns-clause-none c = room_none c.loop-here.invariant c.requires.heap.accepted
 
 pub loop-here-preserved : goal.loop-here-preserved
 loop-here-preserved c = elim c.if-stays.branch [
-  | then-stays+else-room-size w ↦
+  | goal.then-stays+else-room-size w ↦
       subst (λ n. SeenRooms c.args.region.now.bytes c.args.size n (c.loop-here.here + c.at_with_size-header.result.1) c.if-stays.room) (sym w.start-is) (subst (λ n. SeenRooms c.args.region.now.bytes c.args.size (c.loop-here.here + c.at_with_size-header.result.1) (c.loop-here.here + c.at_with_size-header.result.1) n) (sym w.room-is)
       (rooms_closed c.loop-here.invariant c.at_with_size-header.ensures.header c.at_with_size-header.ensures.size (c.stays.ensures.0 w.if-stays.true) (omega (arith, w.if-room-size.false))))
-  | else-stays w ↦
+  | goal.else-stays w ↦
       subst (λ n. SeenRooms c.args.region.now.bytes c.args.size n (c.loop-here.here + c.at_with_size-header.result.1) c.if-stays.room) (sym w.start-is) (subst (λ n. SeenRooms c.args.region.now.bytes c.args.size c.loop-here.start (c.loop-here.here + c.at_with_size-header.result.1) n) (sym w.room-is)
       (rooms_more c.loop-here.invariant c.at_with_size-header.ensures.header c.at_with_size-header.ensures.size (λ stay. let is = c.stays.ensures.1 stay in let isnt = w.if-stays.false in cc) w.size_if_free-room.ensures))
 ]

@@ -1,17 +1,13 @@
 -- Another owner is written into the second word, so the chunk has it, and nothing else changes.
-use Rattle.heap_place.proofs.Words.{rules, same_bytes, same_lents}
-use Rattle.heap_place.proofs.AlterLaws.{reowned_there}
-use Rattle.heap_place.proofs.WithinLaws.{keeps_second}
-use Rattle.heap_place.proofs.LentLaws.{one_within, reowned_holds}
+use Rattle.heap_place.proofs.Laws.{rules, same_bytes, same_lents, reowned_there, keeps_second, one_within, reowned_holds}
 use Rattle.heap_place.proofs.alter.reown_at.Goals as goal
 
 pub put_owner-requires-clause-inside : goal.put_owner-requires-clause-inside
-put_owner-requires-clause-inside c = one_within c.args.region.now _ c.requires.heap.accepted c.requires.heap.lent c.requires.found
+put_owner-requires-clause-inside c = one_within _ _ c.requires.heap.accepted c.requires.heap.lent c.requires.found
 
 pub returns : goal.returns
 returns c =
-    let r = c.requires in
-    let is = same_bytes c.put_owner.ensures.after in
+    let r = c.requires in let is = same_bytes c.put_owner.ensures.after in
     let done = reowned_there _ r.heap.accepted r.found r.owner c.put_owner.ensures.reowned is in
     record {
       made = done.0;

@@ -1,7 +1,5 @@
 -- A header and zeros make the free chunk a movable one, and the empty slot gets its place.
-use Rattle.heap_place.proofs.Words.{◌∙◌, ap, inl, refl, arith, rules, IsFreeChunk, need, slot_facts, length-replicate, slot_still_within, same_bytes, same_lents}
-use Rattle.heap_place.proofs.CutLaws.{cut_facts, claimed_table, claimed_write}
-use Rattle.heap_place.proofs.LentLaws.{words_within, body_still, filled_holds}
+use Rattle.heap_place.proofs.Laws.{◌∙◌, ap, inl, refl, arith, rules, IsFreeChunk, need, slot_facts, length-replicate, slot_still_within, same_bytes, same_lents, cut_facts, claimed_table, claimed_write, words_within, body_still, filled_holds}
 use Rattle.heap_place.proofs.claim.claim_movable.Goals as goal
 
 pub write-requires : goal.write-requires
@@ -11,12 +9,13 @@ write-requires c =
     record { inside = f.0; misses = (words_within c.requires.heap c.requires.free).misses; small = omega arith; writable = (omega arith, omega arith, omega arith, inl refl, omega arith, omega arith) }
 
 pub fill-requires : goal.fill-requires
-fill-requires c = body_still c.args.count c.requires.heap c.requires.free (same_lents c.write.ensures.after) c.write.ensures.len
+fill-requires c = body_still _ c.requires.heap c.requires.free (same_lents c.write.ensures.after) c.write.ensures.len
 
 pub set-requires : goal.set-requires
 set-requires c =
     let r = c.requires in
-    let t = claimed_table c.args.count c.args.owner r.heap.accepted r.free r.slot (same_bytes c.write.ensures.after) (same_bytes c.fill.ensures.after) in
+    let t = claimed_table c.args.count c.args.owner r.heap.accepted r.free r.slot
+    (same_bytes c.write.ensures.after) (same_bytes c.fill.ensures.after) in
     record { slot = t.1; within = slot_still_within c.args.region.now c.fill.new.self _ r.heap.accepted r.heap.lent r.slot (same_lents c.fill.ensures.after ∙ same_lents c.write.ensures.after) t.0 t.1 }
 
 pub returns : goal.returns

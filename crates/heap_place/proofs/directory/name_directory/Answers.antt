@@ -1,16 +1,11 @@
 -- A movable chunk of the manager's, or none, is named in the directory word.
-use Rattle.heap_place.proofs.Words.{arith, same_bytes, same_lents, rules}
-use Rattle.laws_heap.proofs.Directory.{directory_written, named_start}
-use Rattle.heap_place.proofs.WithinLaws.{keeps_directory}
-use Rattle.heap_place.proofs.LentLaws.{placed_lends}
+use Rattle.heap_place.proofs.Laws.{arith, same_bytes, same_lents, rules, directory_written, named_start, keeps_directory, placed_lends}
 use Rattle.heap_place.proofs.directory.name_directory.Goals as goal
 
 pub returns : goal.returns
 returns c =
-    let h = c.requires.heap in
-    let is = same_bytes c.put_directory.ensures.after in
-    let done = directory_written _ _ _ h.accepted is (omega arith) c.requires.managers in
-    record {
+    let h = c.requires.heap in let is = same_bytes c.put_directory.ensures.after in
+    let done = directory_written _ _ _ h.accepted is (omega arith) c.requires.managers in record {
       names = done.0;
       keeps = keeps_directory h.accepted is done.0;
       plain = done.1;

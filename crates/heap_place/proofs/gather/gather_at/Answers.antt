@@ -1,15 +1,9 @@
 -- The free chunks from `at` on become one in its list, or the chunk there is live.
-use Rattle.heap_place.proofs.Words.{◌+◌, sym, subst, arith, IsBound, plain_then, rules}
-use Rattle.heap_place.proofs.KeepLaws.{links_chunk, links_plain}
-use Rattle.heap_place.proofs.SpotLaws.{cut_chunk}
-use Rattle.heap_place.proofs.TakeLaws.{chunk_inside, becomes_links}
-use Rattle.heap_place.proofs.GatherLaws.{bound_chunk, bound_spot, spot_least, chunk_bound, header_bound, gathered_lists, passed_lists}
-use Rattle.heap_place.proofs.RunLaws.{bound_misses}
+use Rattle.heap_place.proofs.Laws.{◌+◌, sym, subst, arith, IsBound, plain_then, rules, links_chunk, links_plain, cut_chunk, chunk_inside, becomes_links, bound_chunk, bound_spot, spot_least, chunk_bound, header_bound, gathered_lists, passed_lists, bound_misses}
 use Rattle.heap_place.proofs.gather.gather_at.Goals as goal
 
 pub at_with_size-taken-requires : goal.at_with_size-taken-requires
 at_with_size-taken-requires c =
-    let most = c.requires.heap.accepted.1.tiles.head.most in
     record { chunk = bound_chunk c.requires.heap.accepted c.requires.bound c.requires.inside; small = omega arith; misses = bound_misses c.requires.heap c.requires.bound c.requires.inside }
 
 pub returns-then-size-eq0-clause-bound : goal.returns-then-size-eq0-clause-bound
@@ -23,7 +17,7 @@ pub returns-then-size-eq0-clause-some : goal.returns-then-size-eq0-clause-some
 returns-then-size-eq0-clause-some c = let b = header_bound c.requires.heap.accepted c.requires.bound c.at_with_size-taken.ensures.header in omega arith
 
 pub returns-then-size-eq0-clause-lists : goal.returns-then-size-eq0-clause-lists
-returns-then-size-eq0-clause-lists c = passed_lists c.args.at c.at_with_size-taken.result.1 c.requires.lists
+returns-then-size-eq0-clause-lists c = passed_lists _ _ c.requires.lists
 
 pub cut-requires : goal.cut-requires
 cut-requires c =
@@ -44,8 +38,8 @@ returns c =
       bound = chunk_bound chunk;
       inside = (chunk_inside p.links.frame.accepted chunk).0;
       some = omega arith;
-      lists = gathered_lists c.free_run-size.result (spot_least c.requires.heap.accepted spot (omega arith)).0 c.requires.lists k.keeps p;
-      plain = plain_then c.args.region.now.bytes c.cut.new.region.bytes c.push.new.region.bytes k.plain (links_plain _ _ _ _ p.links);
+      lists = gathered_lists _ (spot_least c.requires.heap.accepted spot (omega arith)).0 c.requires.lists k.keeps p;
+      plain = plain_then _ _ _ k.plain (links_plain _ _ _ _ p.links);
       rest = search rules;
       heap = c.push.ensures.heap;
     }

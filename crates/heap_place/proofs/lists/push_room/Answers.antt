@@ -1,9 +1,5 @@
 -- The room is put into its list, or there is none.
-use Rattle.heap_place.proofs.Words.{◌-◌, arith, Before}
-use Rattle.heap_place.proofs.ListLaws.{lists_weaker}
-use Rattle.heap_place.proofs.TakeLaws.{chunk_inside}
-use Rattle.heap_place.proofs.AlikeLaws.{no_words, one_word}
-use Rattle.heap_place.proofs.GatherLaws.{pushed_lists}
+use Rattle.heap_place.proofs.Laws.{arith, lists_weaker, chunk_inside, no_words, one_word, pushed_lists}
 use Rattle.heap_place.proofs.lists.push_room.Goals as goal
 
 pub push-requires-clause-free : goal.push-requires-clause-free
@@ -14,11 +10,11 @@ returns-then-room-gt0-clause-same c = one_word c.push.ensures.pushed.links
 
 pub returns-then-room-gt0-clause-lists : goal.returns-then-room-gt0-clause-lists
 returns-then-room-gt0-clause-lists c =
-    pushed_lists c.args.end c.args.room (chunk_inside c.requires.heap.accepted (c.requires.free (omega arith))).1
+    pushed_lists _ _ (chunk_inside c.requires.heap.accepted (c.requires.free (omega arith))).1
     c.requires.within c.requires.lists c.push.ensures.pushed
 
 pub returns-else-room-gt0-clause-same : goal.returns-else-room-gt0-clause-same
 returns-else-room-gt0-clause-same c = no_words c.requires.heap.accepted
 
 pub returns-else-room-gt0-clause-lists : goal.returns-else-room-gt0-clause-lists
-returns-else-room-gt0-clause-lists c = lists_weaker (Before (c.args.end - c.args.room)) (Before c.args.end) _ _ (λ x b before. omega arith) c.requires.lists
+returns-else-room-gt0-clause-lists c = lists_weaker _ _ _ _ (λ x b before. omega arith) c.requires.lists

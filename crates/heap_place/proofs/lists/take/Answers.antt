@@ -1,9 +1,5 @@
 -- The room leaves its lists and is cut, and its rest goes into its own list.
-use Rattle.heap_place.proofs.Words.{arith, plain_then, rules}
-use Rattle.heap_place.proofs.CutLaws.{room_facts}
-use Rattle.heap_place.proofs.KeepLaws.{links_plain}
-use Rattle.heap_place.proofs.TakeLaws.{rest_chunk, taken_all, taken_rest, becomes_links, cut_links}
-use Rattle.heap_place.proofs.AlikeLaws.{alike_spot, alike_cuts, alike_becomes}
+use Rattle.heap_place.proofs.Laws.{arith, plain_then, rules, room_facts, links_plain, rest_chunk, taken_all, taken_rest, becomes_links, cut_links, alike_spot, alike_cuts, alike_becomes}
 use Rattle.heap_place.proofs.lists.take.Goals as goal
 
 pub cut-requires-clause-room : goal.cut-requires-clause-room
@@ -11,8 +7,7 @@ cut-requires-clause-room c = alike_spot _ _ _ _ c.unlink.ensures.same c.requires
 
 pub overflow_add-room : goal.overflow_add-room
 overflow_add-room c =
-    let f = room_facts _ _ _ c.requires.heap.accepted c.requires.room in
-    omega arith
+    let f = room_facts _ _ _ c.requires.heap.accepted c.requires.room in omega arith
 
 pub push-requires-clause-free : goal.push-requires-clause-free
 push-requires-clause-free c =
@@ -22,24 +17,22 @@ push-requires-clause-free c =
 pub returns-then-size-room : goal.returns-then-size-room
 returns-then-size-room c =
     let u = c.unlink.ensures in let k = c.cut.ensures in let p = c.push.ensures.pushed in
-    let room = c.args.room in let size = c.args.size in
-    record {
+    let room = c.args.room in let size = c.args.size in record {
       same = becomes_links (alike_becomes u.same k.same) p.links;
-      cut = cut_links c.args.region.now.bytes room.at room.size size (alike_cuts c.cut.new.region.bytes room.at room.size size u.same k.cut) p.links;
+      cut = cut_links _ _ _ size (alike_cuts _ _ _ size u.same k.cut) p.links;
       lists = taken_rest room.size size c.requires.least c.if-size-room.true u.lists k.keeps p;
-      plain = plain_then c.args.region.now.bytes c.unlink.new.region.bytes c.push.new.region.bytes u.same.plain (plain_then c.unlink.new.region.bytes c.cut.new.region.bytes c.push.new.region.bytes k.plain (links_plain _ _ _ _ p.links));
+      plain = plain_then _ _ _ u.same.plain (plain_then _ _ _ k.plain (links_plain _ _ _ _ p.links));
       rest = search rules;
       heap = c.push.ensures.heap;
     }
 
 pub returns-else-size-room : goal.returns-else-size-room
 returns-else-size-room c =
-    let u = c.unlink.ensures in let k = c.cut.ensures in
-    record {
+    let u = c.unlink.ensures in let k = c.cut.ensures in record {
       same = alike_becomes u.same k.same;
-      cut = alike_cuts c.cut.new.region.bytes c.args.room.at c.args.room.size c.args.size u.same k.cut;
+      cut = alike_cuts _ _ _ _ u.same k.cut;
       lists = taken_all c.args.room.size (omega arith) u.lists k.keeps;
-      plain = plain_then c.args.region.now.bytes c.unlink.new.region.bytes c.cut.new.region.bytes u.same.plain k.plain;
+      plain = plain_then _ _ _ u.same.plain k.plain;
       rest = search rules;
       heap = k.heap;
     }

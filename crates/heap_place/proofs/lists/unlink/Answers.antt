@@ -1,8 +1,5 @@
 -- One chunk that is all the room leaves its list, or all lists are dropped.
-use Rattle.heap_place.proofs.Words.{sym, subst, ◌∙◌, IsFreeChunk}
-use Rattle.heap_place.proofs.TakeLaws.{spot_front}
-use Rattle.heap_place.proofs.AlikeLaws.{taken_outside}
-use Rattle.heap_place.proofs.LentLaws.{first_within}
+use Rattle.heap_place.proofs.Laws.{sym, subst, ◌∙◌, IsFreeChunk, spot_front, taken_outside, first_within}
 use Rattle.heap_place.proofs.lists.unlink.Goals as goal
 
 pub size_at-requires : goal.size_at-requires
@@ -14,5 +11,5 @@ take_out-requires-clause-free c =
 
 pub returns-then-size_at-room-clause-lists : goal.returns-then-size_at-room-clause-lists
 returns-then-size_at-room-clause-lists c =
-    let chunk = subst (λ n. IsFreeChunk c.args.region.now.bytes c.args.room.at n) (sym c.size_at.ensures ∙ c.if-size_at-room.true) (spot_front c.requires.heap.accepted c.requires.some c.requires.room) in
+    let chunk = rw (sym c.size_at.ensures ∙ c.if-size_at-room.true) at (spot_front c.requires.heap.accepted c.requires.some c.requires.room) in
     taken_outside c.take_out.ensures.same chunk c.take_out.ensures.lists

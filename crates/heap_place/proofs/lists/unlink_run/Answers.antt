@@ -1,7 +1,5 @@
 -- Room of no bytes is in no list.
-use Rattle.heap_place.proofs.Words.{arith}
-use Rattle.heap_place.proofs.GatherLaws.{spot_least}
-use Rattle.heap_place.proofs.RegrownLaws.{none_unlinked}
+use Rattle.heap_place.proofs.Laws.{arith, spot_least, none_unlinked}
 use Rattle.heap_place.proofs.lists.unlink_run.Goals as goal
 
 pub returns-then-room-eq0-clause-lists : goal.returns-then-room-eq0-clause-lists

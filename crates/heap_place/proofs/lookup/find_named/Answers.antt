@@ -3,4 +3,4 @@ use Rattle.heap_place.proofs.LookupLaws.{unheld}
 use Rattle.heap_place.proofs.lookup.find_named.Goals as goal
 
 pub returns-in-None-clause-none : goal.returns-in-None-clause-none
-returns-in-None-clause-none c = unheld c.args.name.0 c.find_fixed.result c.requires.heap.accepted c.in-None.ensures.none c.find_fixed.ensures.none
+returns-in-None-clause-none c = unheld _ _ c.requires.heap.accepted c.in-None.ensures.none c.find_fixed.ensures.none

@@ -6,7 +6,6 @@ use Rattle.heap_place.proofs.lookup.fixed_at.Goals as goal
 pub at-header-requires : goal.at-header-requires
 at-header-requires c =
     let heap = c.requires.heap in
-    let most = heap.accepted.1.tiles.head.most in
     record { chunk = fixed_has_chunk heap.accepted c.requires.fixed; small = omega arith; misses = (found_within c.args.region.now _ _ _ _ heap.accepted heap.lent c.requires.fixed.finds).misses }
 
 pub unwrap-requires : goal.unwrap-requires

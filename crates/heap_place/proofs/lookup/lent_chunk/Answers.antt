@@ -1,6 +1,5 @@
 -- The header of a lent body is that of a movable chunk in its slot, or of a fixed one.
-use Rattle.heap_place.proofs.Words.{arith, sym, subst, ◌∙◌, IsFound}
-use Rattle.heap_place.proofs.LookupLaws.{header_read}
+use Rattle.heap_place.proofs.Laws.{arith, sym, ◌∙◌, header_read}
 use Rattle.heap_place.proofs.LentChunks.{lent_low, lent_misses, lent_has_chunk, lent_movable_one, lent_fixed_one, fixed_at_place}
 use Rattle.heap_place.proofs.lookup.lent_chunk.Goals as goal
 
@@ -9,8 +8,7 @@ overflow_sub-place c = lent_low c.args.region.now c.args.place.0 c.requires.heap
 
 pub at-header-requires : goal.at-header-requires
 at-header-requires c =
-    let most = c.requires.heap.accepted.1.tiles.head.most in
-    record { chunk = lent_has_chunk c.args.place.0 c.requires.heap c.requires.begins; small = omega arith; misses = lent_misses c.args.place.0 c.requires.heap c.requires.begins }
+    record { chunk = lent_has_chunk _ c.requires.heap c.requires.begins; small = omega arith; misses = lent_misses _ c.requires.heap c.requires.begins }
 
 pub fixed_at-requires-clause-fixed : goal.fixed_at-requires-clause-fixed
 fixed_at-requires-clause-fixed c =
@@ -23,7 +21,7 @@ returns-in-Some-clause-found c =
     (header_read c.at-header.ensures) (sym c.as_movable.ensures ∙ c.in-Some.is)
 
 pub returns-in-None-clause-found : goal.returns-in-None-clause-found
-returns-in-None-clause-found c = subst (λ n. IsFound c.args.region.now.bytes n c.fixed_at.result) (sym c.fixed_at.ensures.name_is) c.fixed_at.ensures
+returns-in-None-clause-found c = rw (← c.fixed_at.ensures.name_is) at c.fixed_at.ensures
 
 pub returns-in-None-clause-there : goal.returns-in-None-clause-there
 returns-in-None-clause-there c =

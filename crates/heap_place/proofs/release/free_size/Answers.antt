@@ -1,6 +1,5 @@
 -- A header tells whether a free chunk is there, and its size.
-use Rattle.heap_place.proofs.Words.{◌∙◌, arith}
-use Rattle.heap_place.proofs.RunLaws.{a_chunk_there, free_read, none_at_the_end}
+use Rattle.heap_place.proofs.Laws.{◌∙◌, arith, a_chunk_there, free_read, none_at_the_end}
 use Rattle.heap_place.proofs.release.free_size.Goals as goal
 
 pub returns-then-at-len : goal.returns-then-at-len

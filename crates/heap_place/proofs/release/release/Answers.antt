@@ -1,8 +1,5 @@
 -- The header of a free chunk replaces the chunk's, and its slot is emptied.
-use Rattle.heap_place.proofs.Words.{◌∙◌, arith, rules, IsOne, same_bytes, same_lents}
-use Rattle.heap_place.proofs.FoundLaws.{found_inside}
-use Rattle.heap_place.proofs.ReleaseLaws.{given_size, own_slot_within, emptied_loose, emptied_locked, gave_back}
-use Rattle.heap_place.proofs.LentLaws.{one_within, freed_holds}
+use Rattle.heap_place.proofs.Laws.{◌∙◌, arith, rules, IsOne, same_bytes, same_lents, found_inside, given_size, own_slot_within, emptied_loose, emptied_locked, gave_back, one_within, freed_holds}
 use Rattle.heap_place.proofs.release.release.Goals as goal
 
 pub size_of_body-size-requires : goal.size_of_body-size-requires
@@ -23,7 +20,7 @@ pub returns-then-found-ne-FIXED_LOCK : goal.returns-then-found-ne-FIXED_LOCK
 returns-then-found-ne-FIXED_LOCK c =
     let r = c.requires in
     let done = λ (f : IsOne c.args.region.now.bytes c.args.found). gave_back c.clear.new.region.bytes r.heap.accepted f r.no_directory c.size_of_body-size.ensures (same_bytes c.write.ensures.after) c.write.ensures.spelled
-    (emptied_loose c.write.new.region.bytes f c.if-found-ne-FIXED_LOCK.true (same_bytes c.clear.ensures.after)) in
+    (emptied_loose _ f c.if-found-ne-FIXED_LOCK.true (same_bytes c.clear.ensures.after)) in
     let gone = done r.found in
     record { gone = gone.0; chunk = gone.1; exact = λ f. (done f).4; keeps = gone.2; plain = gone.3; rest = search rules; heap = freed_holds r.heap (same_lents c.clear.ensures.after ∙ same_lents c.write.ensures.after) r.found gone.0 r.other }
 

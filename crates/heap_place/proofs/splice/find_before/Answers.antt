@@ -1,8 +1,5 @@
 -- The chunk before another in its list is found, or there is none.
-use Rattle.heap_place.proofs.Words.{sym, subst, ◌∙◌, Looking}
-use Rattle.heap_place.proofs.SpliceLaws.{look_more, looked_free}
-use Rattle.heap_place.proofs.TakeLaws.{begun_chunk}
-use Rattle.heap_place.proofs.LentLaws.{second_within}
+use Rattle.heap_place.proofs.Laws.{sym, subst, ◌∙◌, Looking, look_more, looked_free, begun_chunk, second_within}
 use Rattle.heap_place.proofs.splice.find_before.Goals as goal
 
 pub get_u32-next-requires : goal.get_u32-next-requires

@@ -1,13 +1,9 @@
 -- The chunk before gets the link of the one that leaves the list.
-use Rattle.heap_place.proofs.Words.{arith, rules, same_bytes, same_lents}
-use Rattle.heap_place.proofs.SpliceLaws.{looked_free}
-use Rattle.heap_place.proofs.TakeLaws.{begun_chunk}
-use Rattle.heap_place.proofs.AlikeLaws.{linked_past, linked_nowhere}
-use Rattle.heap_place.proofs.LentLaws.{second_within, linked_holds}
+use Rattle.heap_place.proofs.Laws.{arith, rules, same_bytes, same_lents, looked_free, begun_chunk, linked_past, linked_nowhere, second_within, linked_holds}
 use Rattle.heap_place.proofs.splice.link_past.Goals as goal
 
 pub get_u32-next-requires : goal.get_u32-next-requires
-get_u32-next-requires c = second_within c.requires.heap (begun_chunk c.args.at c.requires.heap.accepted c.requires.free.begins)
+get_u32-next-requires c = second_within c.requires.heap (begun_chunk _ c.requires.heap.accepted c.requires.free.begins)
 
 pub put_u32-requires : goal.put_u32-requires
 put_u32-requires c =

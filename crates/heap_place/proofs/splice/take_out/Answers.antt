@@ -1,10 +1,5 @@
 -- The chunk leaves its list as the first of it, or past the chunk before it.
-use Rattle.heap_place.proofs.Words.{ap, sym, subst, ◌∙◌, arith, slice_set, AreLists, ButAt}
-use Rattle.heap_place.proofs.TakeLaws.{chunk_inside}
-use Rattle.heap_place.proofs.ListLaws.{popped}
-use Rattle.heap_place.proofs.KeepLaws.{free_there}
-use Rattle.heap_place.proofs.AlikeLaws.{chunk_of_class}
-use Rattle.heap_place.proofs.LentLaws.{second_within}
+use Rattle.heap_place.proofs.Laws.{ap, sym, subst, ◌∙◌, arith, slice_set, AreLists, ButAt, chunk_inside, popped, free_there, chunk_of_class, second_within}
 use Rattle.heap_place.proofs.splice.take_out.Goals as goal
 
 pub class_of-class-requires-clause-least : goal.class_of-class-requires-clause-least
@@ -19,7 +14,7 @@ get_u32-requires c = second_within c.requires.heap c.requires.free
 pub returns-then-head-at-clause-lists : goal.returns-then-head-at-clause-lists
 returns-then-head-at-clause-lists c =
     subst (λ heads. AreLists (ButAt c.args.at) c.args.region.now.bytes heads) (sym (c.set_head.ensures ∙ ap (λ n. slice_set c.args.lists.now c.class_of-class.result n) c.get_u32.ensures))
-    (popped c.class_of-class.result c.requires.lists c.class_of-class.ensures.below (sym c.if-head-at.true ∙ c.head.ensures) (omega arith))
+    (popped _ c.requires.lists c.class_of-class.ensures.below (sym c.if-head-at.true ∙ c.head.ensures) (omega arith))
 
 pub link_past-requires-clause-free : goal.link_past-requires-clause-free
 link_past-requires-clause-free c = chunk_of_class c.requires.heap.accepted c.requires.free c.class_of-class.ensures.of_class

@@ -1,6 +1,5 @@
 -- When the walk ends, the free bytes of all chunks are summed.
-use Rattle.heap_place.proofs.Words.{◌+◌, sym, subst, arith, Passed, HaveFreeBytes, free_by}
-use Rattle.heap_place.proofs.WalkLaws.{passed_chunk, passed_misses, passed_size, passed_all, free_fits, free_fits_by, free_passed}
+use Rattle.heap_place.proofs.Laws.{◌+◌, sym, subst, arith, Passed, HaveFreeBytes, free_by, passed_chunk, passed_misses, passed_size, passed_all, free_fits, free_fits_by, free_passed}
 use Rattle.heap_place.proofs.walks.free_bytes.Goals as goal
 
 pub at_with_size-header-requires : goal.at_with_size-header-requires
@@ -12,8 +11,7 @@ pub overflow_add-count : goal.overflow_add-count
 overflow_add-count c =
     let fits = free_fits c.loop-at.count c.loop-at.invariant in
     let size = passed_size _ _ _ c.at_with_size-header.ensures.header in
-    let within = free_fits_by c.at_with_size-header.result.0 in
-    omega arith
+    let within = free_fits_by c.at_with_size-header.result.0 in omega arith
 
 pub loop-at-preserved : goal.loop-at-preserved
 loop-at-preserved c =
@@ -22,4 +20,4 @@ loop-at-preserved c =
     (free_passed c.loop-at.count c.loop-at.invariant c.at_with_size-header.ensures.header))
 
 pub returns : goal.returns
-returns c = sym (passed_all _ (HaveFreeBytes c.loop-at.count) _ c.requires.heap.accepted c.loop-at.invariant (omega arith))
+returns c = sym (passed_all _ _ _ c.requires.heap.accepted c.loop-at.invariant (omega arith))

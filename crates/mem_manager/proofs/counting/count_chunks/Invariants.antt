@@ -1,7 +1,5 @@
 -- The chunks that were passed are counted.
-use Rattle.std.proofs.Common.{◌-◌, length}
-use Rattle.heap_place.specs.Search.{Passed}
-use Rattle.mem_manager.specs.Counting.{AreCounted}
+use Rattle.mem_manager.proofs.Words.{◌-◌, length, Passed, AreCounted}
 use Rattle.mem_manager.proofs.counting.count_chunks.Given as goal
 
 abbrev pub invariant-loop-at : goal.invariant-loop-at

@@ -1,7 +1,5 @@
 -- What was found has a chunk.
-use Rattle.std.proofs.Common.{refl, sym, subst}
-use Rattle.std.specs.Prelude.{IsSome}
-use Rattle.heap_place.proofs.FoundLaws.{name_held}
+use Rattle.mem_manager.proofs.Words.{refl, sym, subst, IsSome, name_held}
 use Rattle.mem_manager.proofs.lookup.is_fixed.Goals as goal
 
 pub returns-in-Some-clause-there : goal.returns-in-Some-clause-there

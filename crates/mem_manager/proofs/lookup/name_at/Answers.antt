@@ -1,6 +1,5 @@
 -- The chunk at a place is a caller's, or no caller's chunk is there.
-use Rattle.std.proofs.Common.{arith}
-use Rattle.mem_manager.proofs.Places.{found_there, nowhere, managers_there}
+use Rattle.mem_manager.proofs.Laws.{arith, found_there, nowhere, managers_there}
 use Rattle.mem_manager.proofs.lookup.name_at.Goals as goal
 
 pub returns-in-Some-clause-there : goal.returns-in-Some-clause-there
@@ -14,4 +13,5 @@ returns-in_default-clause-none c =
     managers_there c.holds.ensures.accepted found c.in-Some.ensures.there (omega arith)
 
 pub returns-in_default-2-clause-none : goal.returns-in_default-2-clause-none
-returns-in_default-2-clause-none c = nowhere c.args.place.0 c.holds.ensures.accepted c.in_default.ensures.none
+returns-in_default-2-clause-none c =
+    nowhere c.args.place.0 c.holds.ensures.accepted c.in_default.ensures.none

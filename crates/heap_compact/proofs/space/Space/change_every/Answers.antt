@@ -1,7 +1,5 @@
 -- The changed bytes are written over those of a body that isn't lent.
-use Rattle.heap_compact.proofs.Words.{rules, arith, same_bytes, same_lents}
-use Rattle.heap_compact.proofs.KeptLaws.{viewed_heap}
-use Rattle.heap_compact.proofs.SpaceWrites.{SpaceWritten, space_written, body_within, changed_part, length-changed_part}
+use Rattle.heap_compact.proofs.Laws.{rules, arith, same_bytes, same_lents, viewed_heap, SpaceWritten, space_written, body_within, changed_part, length-changed_part}
 use Rattle.heap_compact.proofs.space.Space.change_every.Given.{Over}
 use Rattle.heap_compact.proofs.space.Space.change_every.Goals.{After-change_every}
 use Rattle.heap_compact.proofs.space.Space.change_every.Goals as goal

@@ -1,14 +1,11 @@
 -- The room is taken from its lists, and a movable chunk is put there.
-use Rattle.heap_compact.proofs.Words.{ℕ, replicate, ap, sym, subst, ◌∙◌, arith, length-replicate, Memory, u32_at, movable, need, IsSlot, Claims, slot_kept, room_facts, lists_kept, lists_any, taken_chunk}
-use Rattle.laws_heap.proofs.SameLayouts.{same_slots}
-use Rattle.heap_compact.proofs.KeptLaws.{viewed_heap, viewed_space}
-use Rattle.heap_compact.proofs.SpaceWrites.{room_claimed}
+use Rattle.heap_compact.proofs.Laws.{replicate, ap, sym, subst, ◌∙◌, arith, length-replicate, Memory, u32_at, movable, need, IsSlot, Claims, slot_kept, room_facts, lists_kept, lists_any, taken_chunk, same_slots, viewed_heap, viewed_space, room_claimed}
 use Rattle.heap_compact.proofs.space.Space.claim.Goals.{After-build_unless_packed}
 use Rattle.heap_compact.proofs.space.Space.claim.Goals as goal
 
 claimed : (c : After-build_unless_packed) → Claims c.args.self.now.bytes c.build_unless_packed.new.region.bytes c.args.room.at c.args.room.size (movable (replicate c.args.count 0) 0 c.args.owner c.args.slot.0)
 claimed c =
-    room_claimed c.args.count _ c.self.view_is c.size_of_body.ensures (ap need (length-replicate {A = ℕ} c.args.count 0))
+    room_claimed _ _ c.self.view_is c.size_of_body.ensures (ap need (length-replicate c.args.count 0))
     c.take.ensures.same c.take.ensures.cut c.claim_movable.ensures.made c.build_unless_packed.ensures.same
 
 pub size_of_body-requires : goal.size_of_body-requires
@@ -17,7 +14,7 @@ size_of_body-requires c =
     omega (arith, f.0, f.2, c.requires.enough)
 
 pub claim_movable-requires-clause-free : goal.claim_movable-requires-clause-free
-claim_movable-requires-clause-free c = taken_chunk _ _ _ _ _ _ c.args.count c.self.view_is c.requires.room c.size_of_body.ensures c.take.ensures.same c.take.ensures.cut
+claim_movable-requires-clause-free c = taken_chunk _ _ _ _ _ _ _ c.self.view_is c.requires.room c.size_of_body.ensures c.take.ensures.same c.take.ensures.cut
 
 pub build_unless_packed-requires-clause-lists : goal.build_unless_packed-requires-clause-lists
 build_unless_packed-requires-clause-lists c =
@@ -35,7 +32,7 @@ claim_movable-requires-clause-empty c =
 
 pub claim_movable-requires-clause-slot : goal.claim_movable-requires-clause-slot
 claim_movable-requires-clause-slot c =
-    slot_kept _ _ _ _ c.take.ensures.same (subst (λ (m : Memory). IsSlot m.bytes c.args.slot.0) (sym c.self.view_is) c.requires.slot)
+    slot_kept _ _ _ _ c.take.ensures.same (rw (← c.self.view_is) at c.requires.slot)
 
 pub invariant_of-self : goal.invariant_of-self
 invariant_of-self c =

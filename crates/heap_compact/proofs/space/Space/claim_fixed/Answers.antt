@@ -1,13 +1,11 @@
 -- The room is taken from its lists, and a fixed chunk is put there.
-use Rattle.heap_compact.proofs.Words.{ℕ, replicate, ap, arith, length-replicate, fixed, need, Claims, room_facts, lists_kept, lists_any, taken_chunk}
-use Rattle.heap_compact.proofs.KeptLaws.{viewed_heap, viewed_space}
-use Rattle.heap_compact.proofs.SpaceWrites.{room_claimed}
+use Rattle.heap_compact.proofs.Laws.{replicate, ap, arith, length-replicate, fixed, need, Claims, room_facts, lists_kept, lists_any, taken_chunk, viewed_heap, viewed_space, room_claimed}
 use Rattle.heap_compact.proofs.space.Space.claim_fixed.Goals.{After-build_unless_packed}
 use Rattle.heap_compact.proofs.space.Space.claim_fixed.Goals as goal
 
 claimed : (c : After-build_unless_packed) → Claims c.args.self.now.bytes c.build_unless_packed.new.region.bytes c.args.room.at c.args.room.size (fixed (replicate c.args.count 0) c.args.owner)
 claimed c =
-    room_claimed c.args.count _ c.self.view_is c.size_of_body.ensures (ap need (length-replicate {A = ℕ} c.args.count 0))
+    room_claimed _ _ c.self.view_is c.size_of_body.ensures (ap need (length-replicate c.args.count 0))
     c.take.ensures.same c.take.ensures.cut c.claim_fixed_at.ensures.made c.build_unless_packed.ensures.same
 
 pub size_of_body-requires : goal.size_of_body-requires
@@ -16,7 +14,7 @@ size_of_body-requires c =
     omega (arith, f.0, f.2, c.requires.enough)
 
 pub claim_fixed_at-requires-clause-free : goal.claim_fixed_at-requires-clause-free
-claim_fixed_at-requires-clause-free c = taken_chunk _ _ _ _ _ _ c.args.count c.self.view_is c.requires.room c.size_of_body.ensures c.take.ensures.same c.take.ensures.cut
+claim_fixed_at-requires-clause-free c = taken_chunk _ _ _ _ _ _ _ c.self.view_is c.requires.room c.size_of_body.ensures c.take.ensures.same c.take.ensures.cut
 
 pub build_unless_packed-requires-clause-lists : goal.build_unless_packed-requires-clause-lists
 build_unless_packed-requires-clause-lists c =

@@ -1,17 +1,14 @@
 -- The body reads as zeros, and is one lent part more.
-use Rattle.heap_compact.proofs.Words.{ℕ, ◌≡◌, ◌+◌, ◌∷◌, replicate, refl, sym, ap, subst, ◌∙◌, arith, length-replicate, Memory, Lent, NoneBegins, HoldsHeap, found_markable, lending_lends, same_bytes, same_lents}
-use Rattle.heap_compact.proofs.KeptLaws.{viewed_heap}
-use Rattle.heap_compact.proofs.SpaceWrites.{BodyWritten, body_written, body_within}
+use Rattle.heap_compact.proofs.Laws.{ℕ, ◌≡◌, ◌+◌, ◌∷◌, replicate, refl, ap, ◌∙◌, arith, length-replicate, Lent, HoldsHeap, found_markable, lending_lends, same_bytes, same_lents, viewed_heap, BodyWritten, body_written, body_within}
 use Rattle.heap_compact.proofs.space.Space.lend.Goals.{After-lend}
 use Rattle.heap_compact.proofs.space.Space.lend.Goals as goal
 
 pub lend-requires : goal.lend-requires
 lend-requires c =
-    let start : c.args.found.place.0 + 0 ≡ c.args.found.place.0 = omega arith in
-    record {
+    let start : c.args.found.place.0 + 0 ≡ c.args.found.place.0 = omega arith in record {
       within = rw start at (body_within c.self.view_is c.self.invariant c.requires.found c.requires.other 0 c.args.found.length (omega arith));
-      begins = subst (λ (m : Memory). NoneBegins c.args.found.place.0 m.lents) (sym c.self.view_is) c.requires.other;
-      place = found_markable _ c.args.found (viewed_heap c.self.view_is c.self.invariant.heap).accepted c.requires.found;
+      begins = rw (← c.self.view_is) at c.requires.other;
+      place = found_markable _ _ (viewed_heap c.self.view_is c.self.invariant.heap).accepted c.requires.found;
     }
 
 -- a lent body is zeros
@@ -25,10 +22,10 @@ heap : (c : After-lend) → HoldsHeap c.lend.new.self
 heap c =
     let h = viewed_heap c.self.view_is c.self.invariant.heap in
     let lent : Lent = record { at = c.args.found.place.0; count = c.args.found.length; start = c.lend.result.start } in
-    let lents = same_lents c.lend.ensures.after ∙ ap (λ (m : Memory). lent ∷ m.lents) c.self.view_is in
+    let lents = same_lents c.lend.ensures.after ∙ ap (λ m. lent ∷ m.lents) c.self.view_is in
     record {
       accepted = (written c).made.frame.accepted;
-      lent = lending_lends c.args.self.now c.lend.new.self c.args.found lent _ h.accepted h.lent c.requires.other lents c.requires.found c.requires.stays (written c).made (length-replicate {A = ℕ} c.args.found.length 0) refl refl;
+      lent = lending_lends c.args.self.now c.lend.new.self c.args.found lent _ h.accepted h.lent c.requires.other lents c.requires.found c.requires.stays (written c).made (length-replicate c.args.found.length 0) refl refl;
     }
 
 pub returns-clause-made : goal.returns-clause-made

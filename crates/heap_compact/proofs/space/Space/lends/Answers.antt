@@ -5,6 +5,6 @@ use Rattle.heap_compact.proofs.space.Space.lends.Goals as goal
 
 pub lends_at-requires : goal.lends_at-requires
 lends_at-requires c =
-    let inside = bytes_inside _ c.args.found (viewed_heap c.self.view_is c.self.invariant.heap).accepted c.requires.found in
+    let inside = bytes_inside _ _ (viewed_heap c.self.view_is c.self.invariant.heap).accepted c.requires.found in
     let same = ap (λ (m : Memory). length m.bytes) c.self.view_is in
-    ((found_markable _ c.args.found (viewed_heap c.self.view_is c.self.invariant.heap).accepted c.requires.found).0, omega (arith, inside, same))
+    ((found_markable _ _ (viewed_heap c.self.view_is c.self.invariant.heap).accepted c.requires.found).0, omega (arith, inside, same))

@@ -1,13 +1,11 @@
 -- A chunk that moved had a run to go to, and no table moves.
-use Rattle.heap_compact.proofs.Words.{subst, OnTrue, Memory, RelocatesToRun}
-use Rattle.heap_compact.proofs.RelocateLaws.{had_run}
-use Rattle.heap_compact.proofs.KeptLaws.{kept_space}
+use Rattle.heap_compact.proofs.Laws.{had_run, kept_space}
 use Rattle.heap_compact.proofs.space.Space.relocate.Goals as goal
 
 pub returns-clause-had_run : goal.returns-clause-had_run
 returns-clause-had_run c =
-    had_run c.args.self.now.bytes c.relocate.new.region.bytes c.args.found c.args.count c.relocate.result
-    (subst (λ (m : Memory). OnTrue c.relocate.result (RelocatesToRun m.bytes c.relocate.new.region.bytes c.args.found c.args.count)) c.self.view_is c.relocate.ensures.moved)
+    had_run _ _ _ _ _
+    (rw c.self.view_is at c.relocate.ensures.moved)
 
 pub invariant_of-self : goal.invariant_of-self
 invariant_of-self c =

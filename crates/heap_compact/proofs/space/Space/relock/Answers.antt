@@ -1,6 +1,5 @@
 -- Another lock leaves lists and tables as they are.
-use Rattle.heap_compact.proofs.Words.{lists_kept}
-use Rattle.heap_compact.proofs.KeptLaws.{kept_space}
+use Rattle.heap_compact.proofs.Laws.{lists_kept, kept_space}
 use Rattle.heap_compact.proofs.space.Space.relock.Goals as goal
 
 pub invariant_of-self : goal.invariant_of-self

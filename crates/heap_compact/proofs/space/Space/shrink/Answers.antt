@@ -1,17 +1,17 @@
 -- The chunk is resized with no free chunk after it.
-use Rattle.heap_compact.proofs.Words.{sym, subst, Memory, RunBehind, Resizes, none_behind, shrinks}
-use Rattle.heap_compact.proofs.KeptLaws.{viewed_heap, viewed_space}
+use Rattle.heap_compact.proofs.Laws.{none_behind, shrinks, viewed_heap, viewed_space}
 use Rattle.heap_compact.proofs.space.Space.shrink.Goals as goal
 
 pub resize_listed-requires-clause-behind : goal.resize_listed-requires-clause-behind
-resize_listed-requires-clause-behind c = subst (λ (m : Memory). RunBehind m.bytes c.args.found 0) (sym c.self.view_is) (none_behind c.args.self.now.bytes c.args.found c.requires.found)
+resize_listed-requires-clause-behind c = rw (← c.self.view_is) at (none_behind _ _ c.requires.found)
 
 pub returns-clause-made : goal.returns-clause-made
 returns-clause-made c =
-    shrinks _ _ _ c.args.count (viewed_heap c.self.view_is c.self.invariant.heap).accepted c.requires.found
-    (subst (λ (m : Memory). Resizes m.bytes c.resize_listed.new.region.bytes c.args.found c.args.count 0) c.self.view_is c.resize_listed.ensures.resized)
+    shrinks _ _ _ _ (viewed_heap c.self.view_is c.self.invariant.heap).accepted c.requires.found
+    (rw c.self.view_is at c.resize_listed.ensures.resized)
 
 pub invariant_of-self : goal.invariant_of-self
 invariant_of-self c =
-    viewed_space c.self.view_is c.resize_listed.ensures.heap c.resize_listed.ensures.lists (shrinks _ _ _ c.args.count (viewed_heap c.self.view_is c.self.invariant.heap).accepted c.requires.found
-    (subst (λ (m : Memory). Resizes m.bytes c.resize_listed.new.region.bytes c.args.found c.args.count 0) c.self.view_is c.resize_listed.ensures.resized)).frame c.self.invariant.tables
+    viewed_space c.self.view_is c.resize_listed.ensures.heap c.resize_listed.ensures.lists
+    (shrinks _ _ _ _ (viewed_heap c.self.view_is c.self.invariant.heap).accepted c.requires.found
+    (rw c.self.view_is at c.resize_listed.ensures.resized)).frame c.self.invariant.tables

@@ -1,14 +1,12 @@
 -- The bytes are written over the zeros of the body, which is lent no more.
-use Rattle.heap_compact.proofs.Words.{ap, sym, subst, ◌∙◌, arith, Memory, without, HoldsHeap, IsOut, found_markable, back_lends, same_bytes, same_lents}
-use Rattle.heap_compact.proofs.KeptLaws.{viewed_heap}
-use Rattle.heap_compact.proofs.SpaceWrites.{BodyWritten, body_written}
+use Rattle.heap_compact.proofs.Laws.{ap, ◌∙◌, arith, without, HoldsHeap, found_markable, back_lends, same_bytes, same_lents, viewed_heap, BodyWritten, body_written}
 use Rattle.heap_compact.proofs.space.Space.take_back.Goals.{After-take_back}
 use Rattle.heap_compact.proofs.space.Space.take_back.Goals as goal
 
 pub take_back-requires : goal.take_back-requires
 take_back-requires c = record {
-  out = subst (λ (m : Memory). IsOut m.lents c.args.found.place.0 c.args.part) (sym c.self.view_is) c.requires.out;
-  place = (found_markable _ c.args.found (viewed_heap c.self.view_is c.self.invariant.heap).accepted c.requires.found).1;
+  out = rw (← c.self.view_is) at c.requires.out;
+  place = (found_markable _ _ (viewed_heap c.self.view_is c.self.invariant.heap).accepted c.requires.found).1;
 }
 
 written : (c : After-take_back) → BodyWritten c.args.self.now.bytes c.take_back.new.self.bytes c.self.inside.lists c.self.inside.tables c.args.found 0 c.args.part.bytes
@@ -19,7 +17,7 @@ written c =
 heap : (c : After-take_back) → HoldsHeap c.take_back.new.self
 heap c =
     let h = viewed_heap c.self.view_is c.self.invariant.heap in
-    let lents = same_lents c.take_back.ensures.after ∙ ap (λ (m : Memory). without c.args.found.place.0 m.lents) c.self.view_is in
+    let lents = same_lents c.take_back.ensures.after ∙ ap (λ m. without c.args.found.place.0 m.lents) c.self.view_is in
     record {
       accepted = (written c).made.frame.accepted;
       lent = back_lends c.args.self.now c.take_back.new.self c.args.found _ h.accepted h.lent lents c.requires.found (written c).made c.requires.whole;

@@ -1,11 +1,5 @@
 -- A body lies in the image, and its slice is the bytes under its name.
-use Rattle.std.proofs.Common.{◌≡◌, ℕ, ◌+◌, ap, subst, sym, ◌∙◌, arith}
-use Rattle.std.specs.Prelude.{slice_range}
-use Rattle.heap_model.specs.Memory.{Memory, IsWithin}
-use Rattle.heap_model.specs.Heap.{HeapAccepted}
-use Rattle.mem_manager.proofs.StoreCalls.{body_found}
-use Rattle.heap_model.specs.Lending.{LendsBodies}
-use Rattle.heap_place.proofs.LentLaws.{one_body_within}
+use Rattle.mem_manager.proofs.Laws.{◌≡◌, ◌+◌, ap, subst, sym, ◌∙◌, arith, slice_range, Memory, IsWithin, HeapAccepted, LendsBodies, one_body_within, body_found}
 use Rattle.mem_manager.proofs.heap.Heap.body_of.Goals as goal
 
 pub slice-requires : goal.slice-requires
@@ -14,8 +8,9 @@ slice-requires c =
     let accepted = subst (λ (m : Memory). HeapAccepted m.bytes) c.self.view_is h in
     let lends = subst (λ (m : Memory). LendsBodies m) c.self.view_is c.self.invariant.heap.lent in
     let start : c.args.found.place.0 + 0 ≡ c.args.found.place.0 = omega arith in
-    subst (λ (m : Memory). IsWithin m c.args.found.place.0 c.args.found.length) (sym (c.region.ensures.same ∙ c.self.view_is))
-    (subst (λ (n : ℕ). IsWithin c.args.self.now n c.args.found.length) start (one_body_within c.args.self.now c.args.found 0 c.args.found.length accepted lends c.requires.found c.requires.other (omega arith)))
+    subst (λ (m : Memory). IsWithin m c.args.found.place.0 c.args.found.length)
+    (sym (c.region.ensures.same ∙ c.self.view_is))
+    (rw start at (one_body_within c.args.self.now c.args.found 0 c.args.found.length accepted lends c.requires.found c.requires.other (omega arith)))
 
 pub returns : goal.returns
 returns c =

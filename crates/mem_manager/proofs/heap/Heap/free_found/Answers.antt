@@ -1,21 +1,14 @@
 -- A chunk without a lock is freed, or its checks refuse it.
-use Rattle.mem_manager.proofs.KnownLoans.{lent_of, here_of}
-use Rattle.std.proofs.Common.{arith, inr, refl, inl, ◌+◌, ◌<◌, subst, sym}
-use Rattle.heap_model.specs.declared.call.Reply.{Reply}
+use Rattle.mem_manager.proofs.Laws.{lent_of, here_of, arith, inr, refl, inl, ◌<◌, subst, Reply, Memory, IsCallers, not_the_directory, freed}
 use Rattle.mem_manager.proofs.StepWords.{one_of, has_chunk, is_data, is_out, no_data, is_locked, not_locked, answers, refused, callers_viewed}
-use Rattle.heap_model.specs.Lending.{IsLent}
-use Rattle.heap_model.specs.Memory.{Memory}
-use Rattle.mem_manager.proofs.ChunkCalls.{not_the_directory}
-use Rattle.mem_manager.proofs.NewChunks.{freed}
-use Rattle.mem_manager.specs.Lookup.{IsCallers}
 use Rattle.mem_manager.proofs.heap.Heap.free_found.Goals as goal
-use Rattle.mem_manager.proofs.heap.Heap.free_found.Goals.{else-found-gt0-via-then-found-gt0+else-found-lt-FIXED_LOCK, else-found-gt0-via-else-found-gt0}
 
 pub returns-in_err-check_callers-clause-does : goal.returns-in_err-check_callers-clause-does
 returns-in_err-check_callers-clause-does c =
     let view = c.self.view_is in
     let o = callers_viewed view c.self.invariant.heap c.requires.found c.requires.callers in
-    answers (λ done. Reply.Done) c.from_residual.result view c.from_residual.ensures c.in_err-check_callers.ensures.refusal o.heap.accepted
+    answers (λ done. Reply.Done) c.from_residual.result view c.from_residual.ensures
+    c.in_err-check_callers.ensures.refusal o.heap.accepted
     (inr (has_chunk o, inl (is_data o c.in_err-check_callers.ensures.err, refl)))
 
 pub returns-then-found-lt-FIXED_LOCK-clause-does : goal.returns-then-found-lt-FIXED_LOCK-clause-does
@@ -39,29 +32,31 @@ give_back-requires-clause-other c = rw (← c.self.view_is) c.in_ok-check_here.e
 
 pub returns-clause-does : goal.returns-clause-does
 returns-clause-does c =
-    let view = c.self.view_is in
-    let lock = c.args.found.lock in
+    let view = c.self.view_is in let lock = c.args.found.lock in
     let o = callers_viewed view c.self.invariant.heap c.requires.found c.requires.callers in
     let v = subst (λ (m : Memory). IsCallers m c.args.name.0 c.args.found) view o in
     let here = here_of o.heap o.is c.in_ok-check_here.ensures.ok in
     let unlocked : 0 < lock → lock < 15 → ⊥ = elim c.else-found-gt0.branch [
-      | else-found-gt0-via-then-found-gt0+else-found-lt-FIXED_LOCK w ↦ λ some below. let not_below = w.if-found-lt-FIXED_LOCK.false in omega arith
-      | else-found-gt0-via-else-found-gt0 w ↦ λ some below. let none = w.if-found-gt0.false in omega arith
+      | goal.else-found-gt0-via-then-found-gt0+else-found-lt-FIXED_LOCK w ↦ λ some below. let not_below = w.if-found-lt-FIXED_LOCK.false in omega arith
+      | goal.else-found-gt0-via-else-found-gt0 w ↦ λ some below. let none = w.if-found-gt0.false in
+          omega arith
     ] in
     let g = c.give_back.ensures in
-    freed v c.in_ok-check_callers.ensures.ok unlocked (λ lent. here (subst (λ (m : Memory). IsLent m c.args.name.0) (sym view) lent)) g.leaves g.loan g.rest
+    freed v c.in_ok-check_callers.ensures.ok unlocked
+    (λ lent. here (rw (← view) at lent)) g.leaves g.loan g.rest
 
 pub returns-in_err-check_here-clause-does : goal.returns-in_err-check_here-clause-does
 returns-in_err-check_here-clause-does c =
-    let failed = c.in_err-check_here.ensures in
-    let ok = c.in_ok-check_callers.ensures.ok in
+    let failed = c.in_err-check_here.ensures in let ok = c.in_ok-check_callers.ensures.ok in
     let lock = c.args.found.lock in
-    let o = callers_viewed c.self.view_is c.self.invariant.heap c.requires.found c.requires.callers in
+    let o =
+    callers_viewed c.self.view_is c.self.invariant.heap c.requires.found c.requires.callers in
     let e = c.from_residual-in_err-check_here in
     let out = is_out o (lent_of c.self.inside.space o.heap.accepted o.is failed.err) in
     let unlocked : 0 < lock → lock < 15 → ⊥ = elim c.else-found-gt0.branch [
-      | else-found-gt0-via-then-found-gt0+else-found-lt-FIXED_LOCK w ↦ λ some below. let not_below = w.if-found-lt-FIXED_LOCK.false in omega arith
-      | else-found-gt0-via-else-found-gt0 w ↦ λ some below. let none = w.if-found-gt0.false in omega arith
+      | goal.else-found-gt0-via-then-found-gt0+else-found-lt-FIXED_LOCK w ↦ λ some below. let not_below = w.if-found-lt-FIXED_LOCK.false in omega arith
+      | goal.else-found-gt0-via-else-found-gt0 w ↦ λ some below. let none = w.if-found-gt0.false in
+          omega arith
     ] in
     answers (λ done. Reply.Done) e.result c.self.view_is e.ensures failed.refusal o.heap.accepted
     (inr (has_chunk o, inr (no_data o ok, inr (not_locked o unlocked, inl (out, refl)))))

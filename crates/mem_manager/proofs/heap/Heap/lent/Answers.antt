@@ -1,9 +1,5 @@
 -- The first chunk above 0 whose bytes are lent, if there is one, is lent.
-use Rattle.std.proofs.Common.{◌≡◌, [], sym, subst}
-use Rattle.heap_model.specs.Memory.{Memory}
-use Rattle.mem_manager.proofs.KnownLoans.{lent_of}
-use Rattle.mem_manager.specs.Loans.{IsNextLoan}
-use Rattle.mem_manager.proofs.LoanCalls.{begins_some, next_loan, none_above}
+use Rattle.mem_manager.proofs.Laws.{subst, Memory, IsNextLoan, lent_of, begins_some, next_loan, none_above}
 use Rattle.mem_manager.proofs.heap.Heap.lent.Goals as goal
 
 pub returns-in-Some-clause-lent : goal.returns-in-Some-clause-lent
@@ -15,12 +11,15 @@ returns-in-Some-clause-lent c =
 pub returns-in-Some-clause-first : goal.returns-in-Some-clause-first
 returns-in-Some-clause-first c = (
   c.in-Some.found.place.0,
-  subst (λ (m : Memory). IsNextLoan m 0 c.in-Some.found.name.0 c.in-Some.found.place.0) c.self.view_is
+  subst
+      (λ (m : Memory). IsNextLoan m 0 c.in-Some.found.name.0 c.in-Some.found.place.0) c.self.view_is
       (next_loan c.self.invariant.heap c.in-Some.ensures.found c.in-Some.ensures.next),
 )
 
 pub returns-in-Some-clause-some : goal.returns-in-Some-clause-some
-returns-in-Some-clause-some c whole = begins_some c.self.inside.space c.in-Some.found.place.0 (subst (λ (m : Memory). m.lents ≡ []) (sym c.self.view_is) whole) c.in-Some.ensures.next.begins
+returns-in-Some-clause-some c whole =
+    begins_some c.self.inside.space c.in-Some.found.place.0
+    (rw (← c.self.view_is) at whole) c.in-Some.ensures.next.begins
 
 pub returns-in-None-clause-none : goal.returns-in-None-clause-none
 returns-in-None-clause-none c =

@@ -1,16 +1,13 @@
 -- A movable chunk gets one lock more, or its checks refuse it.
-use Rattle.std.proofs.Common.{◌≢◌, refl, arith, inl, inr}
-use Rattle.heap_model.specs.declared.call.Reply.{Reply}
+use Rattle.mem_manager.proofs.Laws.{◌≢◌, refl, arith, inl, inr, Reply, relock_changes, locked, below_fixed, out_unmoved}
 use Rattle.mem_manager.proofs.StepWords.{one_of, has_lock, managed_changed, no_lock, refused, has_chunk, answers}
-use Rattle.mem_manager.proofs.ChunkCalls.{relock_changes, locked, below_fixed}
-use Rattle.mem_manager.proofs.LoanCalls.{out_unmoved}
 use Rattle.mem_manager.proofs.heap.Heap.lock.Goals as goal
 
 pub returns-in_err-check_movable-clause-does : goal.returns-in_err-check_movable-clause-does
 returns-in_err-check_movable-clause-does c =
-    let err = c.in_err-check_movable.ensures.err in
-    let e = c.from_residual-in_err-check_movable in
-    answers (λ locked. Reply.Locked locked.place locked.count) e.result c.self.view_is e.ensures c.in_err-check_movable.ensures.refusal c.self.invariant.heap.accepted
+    let err = c.in_err-check_movable.ensures.err in let e = c.from_residual-in_err-check_movable in
+    answers (λ locked. Reply.Locked locked.place locked.count) e.result c.self.view_is e.ensures
+    c.in_err-check_movable.ensures.refusal c.self.invariant.heap.accepted
     (let o = c.in_ok-found.ensures.callers in inr (has_chunk o, inl (has_lock o 15 err, refl)))
 
 pub returns-then-found-eq-MOST_LOCKS-clause-does : goal.returns-then-found-eq-MOST_LOCKS-clause-does
@@ -34,13 +31,13 @@ relock-requires-clause-movable c =
 pub relock-requires-clause-lock : goal.relock-requires-clause-lock
 relock-requires-clause-lock c =
     let most = below_fixed c.in_ok-found.ensures.callers c.in_ok-check_movable.ensures.ok in
-    let few : c.in_ok-found.found.lock ≢ 14 = c.if-found-eq-MOST_LOCKS.false in
-    omega arith
+    let few : c.in_ok-found.found.lock ≢ 14 = c.if-found-eq-MOST_LOCKS.false in omega arith
 
 pub invariant_of-self : goal.invariant_of-self
 invariant_of-self c =
     let o = c.in_ok-found.ensures.callers in
-    managed_changed c.self.invariant c.relock.ensures.heap (relock_changes _ o.heap.accepted o.is c.in_ok-check_movable.ensures.ok c.relock.ensures.made)
+    managed_changed c.self.invariant c.relock.ensures.heap
+    (relock_changes _ o.heap.accepted o.is c.in_ok-check_movable.ensures.ok c.relock.ensures.made)
 
 pub returns-clause-does : goal.returns-clause-does
 returns-clause-does c =

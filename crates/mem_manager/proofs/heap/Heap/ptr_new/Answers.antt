@@ -1,16 +1,11 @@
 -- A fixed chunk is made where room was found, or the first check refuses.
-use Rattle.std.proofs.Common.{◌≡◌, ◌+◌, refl, ap, ◌∙◌, inl, inr, ℕ, Some, None}
-use Rattle.heap_model.specs.Chunk.{fixed_lock}
-use Rattle.heap_model.specs.Reading.{held}
-use Rattle.heap_model.specs.declared.call.Reply.{Reply}
+use Rattle.mem_manager.proofs.Laws.{◌≡◌, ◌+◌, refl, ap, ◌∙◌, inl, inr, ℕ, Some, None, fixed_lock, held, Reply, ChangesName, ptr_made, ptr_claimed, ptr_unheld, managed_ptr, zeros, nothing_slides, once_then, made_moves_nothing, nothing_then, one_stretch_then, itself_one}
 use Rattle.mem_manager.proofs.StepWords.{answers, answers_inside}
-use Rattle.mem_manager.proofs.NewChunks.{ptr_made, ptr_claimed, ptr_unheld, managed_ptr, zeros}
-use Rattle.mem_manager.proofs.SlidChunks.{nothing_slides, once_then, made_moves_nothing, nothing_then, one_stretch_then, itself_one}
-use Rattle.laws_heap.proofs.Exchanges.{ChangesName}
 use Rattle.mem_manager.proofs.heap.Heap.ptr_new.Goals as goal
 
 -- the name of the room stood for nothing once one stretch had slid
-empty : (c : goal.After-remember) → held c.room_for.new.space.bytes (c.in_ok-room.room.at + 8) ≡ None
+empty : (c : goal.After-remember)
+    → held c.room_for.new.space.bytes (c.in_ok-room.room.at + 8) ≡ None
 empty c =
     let room_is = c.in_ok-room.ensures in
     ptr_unheld c.args.size c.room_for.ensures.slides room_is.room room_is.enough
@@ -23,14 +18,17 @@ claimed c name is =
 
 pub returns-in_err-check_owner-clause-does : goal.returns-in_err-check_owner-clause-does
 returns-in_err-check_owner-clause-does c =
-    answers_inside (λ name. Reply.Named name) c.from_residual.result c.self.view_is c.from_residual.ensures c.in_err-check_owner.ensures.refusal c.self.invariant.heap.accepted
+    answers_inside (λ name. Reply.Named name) c.from_residual.result c.self.view_is
+    c.from_residual.ensures c.in_err-check_owner.ensures.refusal c.self.invariant.heap.accepted
     (inl (c.in_err-check_owner.ensures.err, refl))
 
 pub returns-in_err-check_owner-clause-one_stretch : goal.returns-in_err-check_owner-clause-one_stretch
-returns-in_err-check_owner-clause-one_stretch c = rw (← c.self.view_is) (itself_one c.self.inside.space.bytes)
+returns-in_err-check_owner-clause-one_stretch c =
+    rw (← c.self.view_is) (itself_one c.self.inside.space.bytes)
 
 pub returns-in_err-check_owner-clause-once : goal.returns-in_err-check_owner-clause-once
-returns-in_err-check_owner-clause-once c = rw (← c.self.view_is) (nothing_slides c.self.invariant.heap)
+returns-in_err-check_owner-clause-once c =
+    rw (← c.self.view_is) (nothing_slides c.self.invariant.heap)
 
 pub returns-in_err-room-clause-does : goal.returns-in_err-room-clause-does
 returns-in_err-room-clause-does c =
@@ -41,7 +39,8 @@ returns-in_err-room-clause-does c =
 pub invariant_of-self-2 : goal.invariant_of-self-2
 invariant_of-self-2 c =
     let name_is = c.claim_fixed-name.ensures in
-    managed_ptr c.args.size c.self.invariant c.room_for.ensures.heap name_is.heap name_is.name c.remember.ensures c.in_ok-check_owner.ensures.ok
+    managed_ptr c.args.size c.self.invariant c.room_for.ensures.heap name_is.heap name_is.name
+    c.remember.ensures c.in_ok-check_owner.ensures.ok
     c.room_for.ensures.slides c.in_ok-room.ensures.room c.in_ok-room.ensures.enough name_is.made
 
 pub returns-clause-does : goal.returns-clause-does
@@ -49,7 +48,8 @@ returns-clause-does c =
     let n = c.claim_fixed-name.ensures in
     rw (← c.self.view_is)
     (ptr_made c.room_for.new.space c.claim_fixed-name.new.self c.args.size c.args.owner c.self.invariant.heap c.in_ok-check_owner.ensures.ok c.in_ok-room.ensures.not_short
-    (ap (held c.room_for.new.space.bytes) n.name ∙ empty c) c.room_for.ensures.slides c.room_for.ensures.rest (claimed c c.claim_fixed-name.result.0 n.name) n.rest)
+    (ap (held c.room_for.new.space.bytes) n.name ∙ empty c) c.room_for.ensures.slides
+    c.room_for.ensures.rest (claimed c c.claim_fixed-name.result.0 n.name) n.rest)
 
 pub returns-clause-unmoved : goal.returns-clause-unmoved
 returns-clause-unmoved c =

@@ -1,34 +1,30 @@
 -- A chunk takes another length, or its checks refuse it.
-use Rattle.std.proofs.Common.{inl, inr, refl}
-use Rattle.heap_model.specs.declared.call.Reply.{Reply}
-use Rattle.laws_heap.proofs.Unmoved.{itself_alone}
+use Rattle.mem_manager.proofs.Laws.{inl, inr, refl, Reply, itself_alone, resize_replied, growth_lent, resize_refused, managed_resized, lent_of}
 use Rattle.mem_manager.proofs.StepWords.{has_chunk, no_data, answers, is_data, has_lock}
-use Rattle.mem_manager.proofs.Growth.{resize_replied, growth_lent, resize_refused, managed_resized}
-use Rattle.mem_manager.proofs.KnownLoans.{lent_of}
 use Rattle.mem_manager.proofs.heap.Heap.resize.Goals as goal
 
 pub returns-in_err-check_callers-clause-does : goal.returns-in_err-check_callers-clause-does
 returns-in_err-check_callers-clause-does c =
-    let failed = c.in_err-check_callers.ensures in
-    let h = c.self.invariant.heap.accepted in
+    let failed = c.in_err-check_callers.ensures in let h = c.self.invariant.heap.accepted in
     let e = c.from_residual-in_err-check_callers in
     answers (λ done. Reply.Done) e.result c.self.view_is e.ensures failed.refusal h
     (let o = c.in_ok-found.ensures.callers in inr (has_chunk o, inl (is_data o failed.err, refl)))
 
 pub returns-in_err-check_movable-clause-does : goal.returns-in_err-check_movable-clause-does
 returns-in_err-check_movable-clause-does c =
-    let o = c.in_ok-found.ensures.callers in
-    let e = c.from_residual-in_err-check_movable in
-    answers (λ done. Reply.Done) e.result c.self.view_is e.ensures c.in_err-check_movable.ensures.refusal c.self.invariant.heap.accepted
+    let o = c.in_ok-found.ensures.callers in let e = c.from_residual-in_err-check_movable in
+    answers (λ done. Reply.Done) e.result c.self.view_is e.ensures
+    c.in_err-check_movable.ensures.refusal c.self.invariant.heap.accepted
     (inr (has_chunk o, inr (no_data o c.in_ok-check_callers.ensures.ok, inl (has_lock o 15 c.in_err-check_movable.ensures.err, refl))))
 
 pub returns-in_err-check_here-clause-does : goal.returns-in_err-check_here-clause-does
 returns-in_err-check_here-clause-does c =
-    let ok = c.in_ok-check_callers.ensures.ok in
-    let o = c.in_ok-found.ensures.callers in
+    let ok = c.in_ok-check_callers.ensures.ok in let o = c.in_ok-found.ensures.callers in
     let e = c.from_residual-in_err-check_here in
-    let out = growth_lent c.args.size o.heap o.is (lent_of c.self.inside.space o.heap.accepted o.is c.in_err-check_here.ensures.err) in
-    answers (λ done. Reply.Done) e.result c.self.view_is e.ensures c.in_err-check_here.ensures.refusal c.self.invariant.heap.accepted
+    let out = growth_lent c.args.size o.heap o.is
+    (lent_of c.self.inside.space o.heap.accepted o.is c.in_err-check_here.ensures.err) in
+    answers (λ done. Reply.Done) e.result c.self.view_is e.ensures
+    c.in_err-check_here.ensures.refusal c.self.invariant.heap.accepted
     (resize_refused c.args.size o ok c.in_ok-check_movable.ensures.ok out)
 
 pub returns-in_err-found-clause-one_stretch : goal.returns-in_err-found-clause-one_stretch

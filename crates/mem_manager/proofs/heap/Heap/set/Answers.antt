@@ -1,9 +1,6 @@
 -- Bytes of an open chunk are set to one byte, or the checks refuse it.
-use Rattle.std.proofs.Common.{ℕ, replicate, arith, refl}
-use Rattle.std.proofs.lemmas.List.{length-replicate}
-use Rattle.heap_model.specs.declared.call.Reply.{Reply}
+use Rattle.mem_manager.proofs.Laws.{ℕ, replicate, arith, refl, length-replicate, Reply, write_beyond, write_changes, write_passes, write_refused, overwrites}
 use Rattle.mem_manager.proofs.StepWords.{with_names, one_of, answers_inside, managed_changed, alters_does}
-use Rattle.mem_manager.proofs.ChunkCalls.{write_beyond, write_changes, write_passes, write_refused, overwrites}
 use Rattle.mem_manager.proofs.heap.Heap.set.Goals as goal
 
 pub returns-in_err-found-clause-does : goal.returns-in_err-found-clause-does
@@ -15,8 +12,7 @@ invariant_of-self c = with_names c.self.invariant c.find_open.ensures.remembered
 
 pub returns-in_err-check_range-clause-does : goal.returns-in_err-check_range-clause-does
 returns-in_err-check_range-clause-does c =
-    let failed = c.in_err-check_range.ensures in
-    let h = c.self.invariant.heap.accepted in
+    let failed = c.in_err-check_range.ensures in let h = c.self.invariant.heap.accepted in
     let e = c.from_residual-in_err-check_range in
     answers_inside (λ done. Reply.Done) e.result c.self.view_is e.ensures failed.refusal h
     (write_beyond c.in_ok-found.ensures.may_write c.args.at c.args.count failed.err)

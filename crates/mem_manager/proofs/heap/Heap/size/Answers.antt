@@ -1,6 +1,5 @@
 -- The chunk of a slot near is a caller's, so its length is the reply.
-use Rattle.std.proofs.Common.{arith}
-use Rattle.mem_manager.proofs.ChunkCalls.{size_known}
+use Rattle.mem_manager.proofs.Laws.{arith, size_known}
 use Rattle.mem_manager.proofs.heap.Heap.size.Goals as goal
 
 pub returns-in-Some : goal.returns-in-Some

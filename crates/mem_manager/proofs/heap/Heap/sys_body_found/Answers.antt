@@ -1,18 +1,13 @@
 -- The body of a chunk that was found in the heap's value may be read.
-use Rattle.std.proofs.Common.{◌∙◌, subst}
-use Rattle.heap_model.specs.Memory.{Memory}
-use Rattle.heap_model.specs.Lending.{LendsOther}
-use Rattle.mem_manager.proofs.StoreCalls.{found_viewed, found_under}
+use Rattle.mem_manager.proofs.Laws.{◌∙◌, found_viewed, found_under, not_lent_other, here_inside}
 use Rattle.mem_manager.proofs.StepWords.{one_of}
-use Rattle.mem_manager.proofs.KnownLoans.{not_lent_other, here_inside}
 use Rattle.mem_manager.proofs.heap.Heap.sys_body_found.Goals as goal
 
 pub body_of-requires : goal.body_of-requires
 body_of-requires c =
-    let f = found_viewed c.self.view_is c.requires.stands in
-    record {
+    let f = found_viewed c.self.view_is c.requires.stands in record {
       found = one_of c.requires.stands.is;
-      other = subst (λ (m : Memory). LendsOther m c.args.found.place.0) c.self.view_is (not_lent_other c.self.invariant.heap f (here_inside c.self.view_is c.self.invariant.heap c.requires.here));
+      other = rw c.self.view_is at (not_lent_other c.self.invariant.heap f (here_inside c.self.view_is c.self.invariant.heap c.requires.here));
     }
 
 pub returns : goal.returns

@@ -1,16 +1,6 @@
 -- Bytes of a usable chunk are changed.
-use Rattle.std.proofs.Common.{◌+◌, subst, arith, ◌≤◌, List, ℕ, sym, length}
-use Rattle.heap_model.specs.Memory.{Memory}
+use Rattle.mem_manager.proofs.Laws.{◌+◌, arith, within_viewed, is_written, slice_found, usable, not_lent_other, changed_part, length-changed_part, write_changes}
 use Rattle.mem_manager.proofs.StepWords.{managed_changed, one_of, same_lents}
-use Rattle.mem_manager.proofs.StoreCalls.{within_viewed, is_written, slice_found, usable}
-use Rattle.mem_manager.proofs.KnownLoans.{not_lent_other}
-use Rattle.heap_model.specs.Leaving.{Leaves}
-use Rattle.heap_model.specs.Maps.{put}
-use Rattle.heap_model.specs.Reading.{held}
-use Rattle.heap_model.specs.Store.{bytes_under}
-use Rattle.raw_region.specs.ByteChanges.{changed_every}
-use Rattle.heap_compact.proofs.SpaceWrites.{changed_part, length-changed_part}
-use Rattle.mem_manager.proofs.ChunkCalls.{write_changes}
 use Rattle.mem_manager.proofs.heap.Heap.sys_change_every.Goals as goal
 
 pub change_every-requires-clause-within : goal.change_every-requires-clause-within
@@ -27,7 +17,8 @@ pub invariant_of-self : goal.invariant_of-self
 invariant_of-self g c =
     let count = c.args.count in
     let u = usable c.self.view_is c.self.invariant.heap c.requires.stands c.requires.here in
-    let part = changed_part c.self.inside.space.bytes c.args.found c.args.at count c.args.skip c.args.step (g.C.ByteChange.made c.args.change) in
+    let part = changed_part c.self.inside.space.bytes c.args.found c.args.at count c.args.skip
+    c.args.step (g.C.ByteChange.made c.args.change) in
     let fits = within_viewed (c.args.at + count) c.self.view_is u.heap u.is c.requires.within in
     let many = length-changed_part c.self.inside.space.bytes c.args.found c.args.at count c.args.skip c.args.step (g.C.ByteChange.made c.args.change) u.heap.accepted (one_of u.is) fits in
     managed_changed c.self.invariant c.change_every.ensures.heap (write_changes c.args.at part u.heap.accepted u.is (omega (arith, many, fits)) c.change_every.ensures.made)
@@ -36,10 +27,12 @@ pub returns : goal.returns
 returns g c =
     let view = c.self.view_is in
     let u = usable view c.self.invariant.heap c.requires.stands c.requires.here in
-    let part = changed_part c.self.inside.space.bytes c.args.found c.args.at c.args.count c.args.skip c.args.step (g.C.ByteChange.made c.args.change) in
+    let part = changed_part c.self.inside.space.bytes c.args.found c.args.at c.args.count
+    c.args.skip c.args.step (g.C.ByteChange.made c.args.change) in
     let fits = within_viewed (c.args.at + c.args.count) view u.heap u.is c.requires.within in
     let many = length-changed_part c.self.inside.space.bytes c.args.found c.args.at c.args.count c.args.skip c.args.step (g.C.ByteChange.made c.args.change) u.heap.accepted (one_of u.is) fits in
-    let w = is_written u c.args.at part (same_lents c.self.inside.space c.change_every.ensures.rest) (omega (arith, many, fits)) c.change_every.ensures.made in
-    let within = subst (λ (m : Memory). c.args.at + c.args.count ≤ length (bytes_under m.bytes c.args.name.0)) (sym view) c.requires.within in
-    let leaves = subst (λ (p : List ℕ). Leaves c.self.inside.space.bytes c.change_every.new.self.bytes (put (held c.self.inside.space.bytes) c.args.name.0 c.args.at (changed_every (g.C.ByteChange.made c.args.change) c.args.step c.args.skip p))) (slice_found c.args.at c.args.count u.heap.accepted u.is within) w.leaves in
+    let w = is_written u c.args.at part (same_lents c.change_every.ensures.rest)
+    (omega (arith, many, fits)) c.change_every.ensures.made in
+    let within = rw (← view) at c.requires.within in
+    let leaves = rw (slice_found c.args.at c.args.count u.heap.accepted u.is within) at w.leaves in
     rw (← view) (record { leaves = leaves; unmoved = w.unmoved; stands = w.stands; loan = w.loan; rest = c.change_every.ensures.rest })

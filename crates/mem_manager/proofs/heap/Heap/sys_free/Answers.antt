@@ -1,6 +1,5 @@
 -- It is given back, as its chunk is not lent.
-use Rattle.mem_manager.proofs.KnownLoans.{here_inside, not_lent_other}
-use Rattle.mem_manager.proofs.StoreCalls.{found_viewed}
+use Rattle.mem_manager.proofs.Laws.{here_inside, not_lent_other, found_viewed}
 use Rattle.mem_manager.proofs.heap.Heap.sys_free.Goals as goal
 
 pub give_back-requires-clause-other : goal.give_back-requires-clause-other

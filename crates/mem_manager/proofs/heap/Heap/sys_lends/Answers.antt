@@ -1,14 +1,10 @@
 -- The body that begins at a chunk's place is the one of its name.
-use Rattle.std.proofs.Common.{subst, sym}
-use Rattle.heap_model.specs.Memory.{Memory}
-use Rattle.heap_model.specs.Lending.{IsLent}
-use Rattle.mem_manager.proofs.KnownLoans.{lent_of, lent_begins}
-use Rattle.mem_manager.proofs.StoreCalls.{found_viewed}
+use Rattle.mem_manager.proofs.Laws.{lent_of, lent_begins, found_viewed}
 use Rattle.mem_manager.proofs.heap.Heap.sys_lends.Goals as goal
 
 pub returns : goal.returns
 returns c =
     let accepted = c.self.invariant.heap.accepted in (
-      λ yes. subst (λ (m : Memory). IsLent m c.args.name.0) c.self.view_is (lent_of c.self.inside.space accepted (found_viewed c.self.view_is c.sys_find.ensures.stands) (c.lends.ensures.0 yes)),
-      λ lent. c.lends.ensures.1 (lent_begins c.self.inside.space accepted (found_viewed c.self.view_is c.sys_find.ensures.stands) (subst (λ (m : Memory). IsLent m c.args.name.0) (sym c.self.view_is) lent)),
+      λ yes. rw c.self.view_is at (lent_of c.self.inside.space accepted (found_viewed c.self.view_is c.sys_find.ensures.stands) (c.lends.ensures.0 yes)),
+      λ lent. c.lends.ensures.1 (lent_begins c.self.inside.space accepted (found_viewed c.self.view_is c.sys_find.ensures.stands) (rw (← c.self.view_is) at lent)),
     )

@@ -1,15 +1,6 @@
 -- A movable chunk takes another length, or the first check refuses.
-use Rattle.std.proofs.Common.{ap, ℕ, subst}
-use Rattle.std.specs.Prelude.{OnOk}
-use Rattle.heap_model.specs.Memory.{Memory}
-use Rattle.heap_model.specs.Refusals.{NoneHolds}
-use Rattle.mem_manager.specs.Lookup.{checks_of_growth}
-use Rattle.mem_manager.proofs.StoreCalls.{found_viewed}
-use Rattle.mem_manager.proofs.StepWords.{one_of, refuses}
-use Rattle.mem_manager.proofs.Growth.{keeps_replied, growth_lent, managed_resized}
-use Rattle.heap_model.specs.Lending.{IsLent}
-use Rattle.laws_heap.proofs.Unmoved.{itself_alone}
-use Rattle.mem_manager.proofs.KnownLoans.{here_of, lent_of, managers_here}
+use Rattle.mem_manager.proofs.Laws.{checks_of_growth, itself_alone, found_viewed, keeps_replied, growth_lent, managed_resized, here_of, lent_of, managers_here}
+use Rattle.mem_manager.proofs.StepWords.{one_of, refuses, same_lents}
 use Rattle.mem_manager.proofs.heap.Heap.sys_resize.Goals as goal
 
 pub returns-in_err-check_here-clause-why : goal.returns-in_err-check_here-clause-why
@@ -30,7 +21,7 @@ invariant_of-self c = managed_resized c.args.found.name.0 c.args.size c.resize_f
 pub returns-clause-could : goal.returns-clause-could
 returns-clause-could c =
     rw (← c.self.view_is)
-    (subst (λ (n : ℕ). OnOk c.resize_found.result (NoneHolds (checks_of_growth c.self.inside.space n c.args.size))) c.requires.stands.is.name_is c.resize_found.ensures.could)
+    (rw c.requires.stands.is.name_is at c.resize_found.ensures.could)
 
 pub returns-in_err-check_here-clause-one_stretch : goal.returns-in_err-check_here-clause-one_stretch
 returns-in_err-check_here-clause-one_stretch c = itself_alone c.args.self.now.bytes c.args.name.0
@@ -39,11 +30,13 @@ pub returns-clause-loan : goal.returns-clause-loan
 returns-clause-loan c =
     let f = found_viewed c.self.view_is c.requires.stands in
     rw (← c.self.view_is)
-    (keeps_replied c.resize_found.new.space c.args.found.name.0 c.args.size c.resize_found.result c.self.invariant.heap (ap (λ (m : Memory). m.lents) c.resize_found.ensures.rest) c.resize_found.ensures.done c.resize_found.ensures.refused
-    (λ is. here_of c.self.invariant.heap f c.in_ok-check_here.ensures.ok (subst (λ (n : ℕ). IsLent c.self.inside.space n) f.name_is is)))
+    (keeps_replied c.resize_found.new.space c.args.found.name.0 c.args.size c.resize_found.result c.self.invariant.heap (same_lents c.resize_found.ensures.rest) c.resize_found.ensures.done c.resize_found.ensures.refused
+    (λ is. here_of c.self.invariant.heap f c.in_ok-check_here.ensures.ok (rw f.name_is at is)))
 
 pub returns-clause-managers : goal.returns-clause-managers
-returns-clause-managers c own is = managers_here c.args.name.0 c.self.view_is c.self.invariant.heap own is
+returns-clause-managers c own is =
+    managers_here c.args.name.0 c.self.view_is c.self.invariant.heap own is
 
 pub returns-in_err-check_here-clause-managers : goal.returns-in_err-check_here-clause-managers
-returns-in_err-check_here-clause-managers c own is = managers_here c.args.name.0 c.self.view_is c.self.invariant.heap own is
+returns-in_err-check_here-clause-managers c own is =
+    managers_here c.args.name.0 c.self.view_is c.self.invariant.heap own is

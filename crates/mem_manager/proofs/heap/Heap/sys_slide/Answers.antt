@@ -1,15 +1,6 @@
 -- Bytes of a usable chunk are copied within it.
-use Rattle.std.proofs.Common.{subst, ap, ◌+◌, arith, ◌≤◌, List, ℕ, sym, length}
-use Rattle.mem_manager.proofs.StepWords.{managed_changed, one_of}
-use Rattle.mem_manager.proofs.StoreCalls.{within_viewed, part_length, is_written, slice_found, usable}
-use Rattle.heap_model.specs.Memory.{Memory}
-use Rattle.mem_manager.proofs.KnownLoans.{not_lent_other}
-use Rattle.std.specs.Prelude.{slice_range}
-use Rattle.heap_model.specs.Leaving.{Leaves}
-use Rattle.heap_model.specs.Maps.{put}
-use Rattle.heap_model.specs.Reading.{held}
-use Rattle.heap_model.specs.Store.{bytes_under}
-use Rattle.mem_manager.proofs.ChunkCalls.{write_changes}
+use Rattle.mem_manager.proofs.Laws.{◌+◌, arith, slice_range, within_viewed, part_length, is_written, slice_found, usable, not_lent_other, write_changes}
+use Rattle.mem_manager.proofs.StepWords.{managed_changed, one_of, same_lents}
 use Rattle.mem_manager.proofs.heap.Heap.sys_slide.Goals as goal
 
 pub slide_within-requires-clause-from_within : goal.slide_within-requires-clause-from_within
@@ -31,20 +22,25 @@ pub invariant_of-self : goal.invariant_of-self
 invariant_of-self c =
     let view = c.self.view_is in
     let u = usable view c.self.invariant.heap c.requires.stands c.requires.here in
-    let part = slice_range c.self.inside.space.bytes (c.args.found.place.0 + c.args.from) (c.args.found.place.0 + c.args.from + c.args.count) in
-    let many = part_length c.args.from c.args.count u.heap.accepted (one_of u.is) (within_viewed (c.args.from + c.args.count) view u.heap u.is c.requires.from_within) in
+    let part = slice_range c.self.inside.space.bytes (c.args.found.place.0 + c.args.from)
+    (c.args.found.place.0 + c.args.from + c.args.count) in
+    let many = part_length c.args.from c.args.count u.heap.accepted (one_of u.is)
+    (within_viewed (c.args.from + c.args.count) view u.heap u.is c.requires.from_within) in
     let fits = within_viewed (c.args.to + c.args.count) view u.heap u.is c.requires.to_within in
     managed_changed c.self.invariant c.slide_within.ensures.heap (write_changes c.args.to part u.heap.accepted u.is (omega (arith, many, fits)) c.slide_within.ensures.made)
 
 pub returns : goal.returns
 returns c =
-    let view = c.self.view_is in
-    let within = c.slide_within.ensures in
+    let view = c.self.view_is in let within = c.slide_within.ensures in
     let u = usable view c.self.invariant.heap c.requires.stands c.requires.here in
-    let part = slice_range c.self.inside.space.bytes (c.args.found.place.0 + c.args.from) (c.args.found.place.0 + c.args.from + c.args.count) in
-    let many = part_length c.args.from c.args.count u.heap.accepted (one_of u.is) (within_viewed (c.args.from + c.args.count) view u.heap u.is c.requires.from_within) in
+    let part = slice_range c.self.inside.space.bytes (c.args.found.place.0 + c.args.from)
+    (c.args.found.place.0 + c.args.from + c.args.count) in
+    let many = part_length c.args.from c.args.count u.heap.accepted (one_of u.is)
+    (within_viewed (c.args.from + c.args.count) view u.heap u.is c.requires.from_within) in
     let fits = within_viewed (c.args.to + c.args.count) view u.heap u.is c.requires.to_within in
-    let w = is_written u c.args.to part (ap (λ (m : Memory). m.lents) within.rest) (omega (arith, many, fits)) within.made in
-    let from_within = subst (λ (m : Memory). c.args.from + c.args.count ≤ length (bytes_under m.bytes c.args.name.0)) (sym view) c.requires.from_within in
-    let leaves = subst (λ (p : List ℕ). Leaves c.self.inside.space.bytes c.slide_within.new.self.bytes (put (held c.self.inside.space.bytes) c.args.name.0 c.args.to p)) (slice_found c.args.from c.args.count u.heap.accepted u.is from_within) w.leaves in
+    let w =
+    is_written u c.args.to part (same_lents within.rest) (omega (arith, many, fits)) within.made in
+    let from_within = rw (← view) at c.requires.from_within in
+    let leaves =
+    rw (slice_found c.args.from c.args.count u.heap.accepted u.is from_within) at w.leaves in
     rw (← view) (record { leaves = leaves; stands = w.stands; loan = w.loan; rest = within.rest })

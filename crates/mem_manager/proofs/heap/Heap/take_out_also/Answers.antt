@@ -1,9 +1,7 @@
 -- A loan of an open chunk is made. Else the first check refuses.
-use Rattle.std.proofs.Common.{ℕ, replicate, refl}
+use Rattle.mem_manager.proofs.Words.{ℕ, replicate, refl, length-replicate, also_out_checks}
 use Rattle.mem_manager.proofs.StepWords.{refuses, one_of, with_names, managed_changed}
 use Rattle.mem_manager.proofs.LoanCalls.{out_changes, made_out}
-use Rattle.std.proofs.lemmas.List.{length-replicate}
-use Rattle.mem_manager.specs.Loans.{also_out_checks}
 use Rattle.mem_manager.proofs.heap.Heap.take_out_also.Goals as goal
 
 pub returns-in_err-found-clause-why : goal.returns-in_err-found-clause-why
@@ -20,10 +18,8 @@ lend-part-requires-clause-other c = c.in_ok-found.ensures.may_write.other
 
 pub invariant_of-self-2 : goal.invariant_of-self-2
 invariant_of-self-2 c =
-    let part_is = c.lend-part.ensures in
-    let length = c.in_ok-found.found.length in
-    let o = c.in_ok-found.ensures.may_write.owned in
-    let zeros = replicate length 0 in
+    let part_is = c.lend-part.ensures in let length = c.in_ok-found.found.length in
+    let o = c.in_ok-found.ensures.may_write.owned in let zeros = replicate length 0 in
     managed_changed (with_names c.self.invariant c.find_open.ensures.remembered) part_is.heap
     (out_changes zeros o.heap.accepted o.is (length-replicate {A = ℕ} length 0) part_is.made)
 

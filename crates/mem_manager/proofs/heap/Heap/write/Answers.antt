@@ -1,8 +1,6 @@
 -- Bytes are written over those of an open chunk, or the checks refuse it.
-use Rattle.std.proofs.Common.{length, arith, refl}
-use Rattle.heap_model.specs.declared.call.Reply.{Reply}
+use Rattle.mem_manager.proofs.Laws.{length, arith, refl, Reply, write_beyond, write_changes, write_passes, overwrites, write_refused}
 use Rattle.mem_manager.proofs.StepWords.{with_names, one_of, alters_does, answers_inside, managed_changed}
-use Rattle.mem_manager.proofs.ChunkCalls.{write_beyond, write_changes, write_passes, overwrites, write_refused}
 use Rattle.mem_manager.proofs.heap.Heap.write.Goals as goal
 
 pub returns-in_err-found-clause-does : goal.returns-in_err-found-clause-does
@@ -14,8 +12,7 @@ invariant_of-self c = with_names c.self.invariant c.find_open.ensures.remembered
 
 pub returns-in_err-check_range-clause-does : goal.returns-in_err-check_range-clause-does
 returns-in_err-check_range-clause-does c =
-    let failed = c.in_err-check_range.ensures in
-    let h = c.self.invariant.heap.accepted in
+    let failed = c.in_err-check_range.ensures in let h = c.self.invariant.heap.accepted in
     let e = c.from_residual-in_err-check_range in
     answers_inside (λ done. Reply.Done) e.result c.self.view_is e.ensures failed.refusal h
     (write_beyond c.in_ok-found.ensures.may_write c.args.at (length c.args.bytes.now) failed.err)
@@ -39,5 +36,6 @@ invariant_of-self-2 c =
 pub returns-clause-does : goal.returns-clause-does
 returns-clause-does c =
     let o = c.in_ok-found.ensures.may_write in
-    let a = overwrites o c.args.at c.args.bytes.now c.write.ensures.rest (let inside = c.in_ok-check_range.ensures.ok in omega arith) c.write.ensures.made in
+    let a = overwrites o c.args.at c.args.bytes.now c.write.ensures.rest
+    (let inside = c.in_ok-check_range.ensures.ok in omega arith) c.write.ensures.made in
     rw (← c.self.view_is) (alters_does o.owned.heap a.0 a.1 (write_passes o c.args.at (length c.args.bytes.now) c.in_ok-check_range.ensures.ok, (tt, a.0.leaves.map)) a.0.leaves.frame tt c.write.ensures.rest)

@@ -1,12 +1,6 @@
 -- A table is put in room for it, or the first check refuses.
-use Rattle.std.proofs.Common.{◌≡◌, true, sym, ap, ◌∙◌, inl, inr, refl}
-use Rattle.heap_model.specs.Memory.{Memory}
-use Rattle.heap_model.specs.Slots.{is_chained}
-use Rattle.heap_model.specs.declared.call.Reply.{Reply}
+use Rattle.mem_manager.proofs.Laws.{◌≡◌, true, sym, ap, ◌∙◌, inl, inr, refl, Memory, is_chained, Reply, false≢true, nothing_slides, itself_one, one_stretch_then, more_made, more_once, puts_move_nothing}
 use Rattle.mem_manager.proofs.StepWords.{answers}
-use Rattle.mem_manager.proofs.SlidChunks.{nothing_slides, itself_one, one_stretch_then}
-use Rattle.mem_manager.proofs.MoreSlots.{more_made, more_once, puts_move_nothing}
-use Rattle.std.proofs.lemmas.Bool.{false≢true}
 use Rattle.mem_manager.proofs.heap.making.make_table.Goals as goal
 
 pub returns-then-not-is_chained-clause-one_stretch : goal.returns-then-not-is_chained-clause-one_stretch
@@ -23,7 +17,8 @@ returns-in_err-room-clause-does c =
 pub returns-clause-does : goal.returns-clause-does
 returns-clause-does c =
     let table = c.claim_table.ensures in
-    let chained : is_chained c.args.space.now.bytes ≡ true = ap (λ (m : Memory). is_chained m.bytes) (sym c.region.ensures.same) ∙ sym c.is_chained.ensures ∙ c.if-not-is_chained.false in
+    let chained : is_chained c.args.space.now.bytes ≡ true = ap (λ (m : Memory). is_chained m.bytes)
+    (sym c.region.ensures.same) ∙ sym c.is_chained.ensures ∙ c.if-not-is_chained.false in
     more_made c.room_for.new.space c.claim_table.new.self c.holds.ensures
     (λ none. elim none [ inl plain ↦ false≢true (sym plain ∙ chained) | inr short ↦ c.in_ok-room.ensures.not_short short ])
     c.room_for.ensures.slides c.room_for.ensures.rest table.made table.rest
@@ -34,4 +29,5 @@ returns-clause-one_stretch c =
     (puts_move_nothing c.claim_table.ensures.made)
 
 pub returns-clause-once : goal.returns-clause-once
-returns-clause-once c = more_once c.args.space.now c.room_for.new.space c.claim_table.new.self c.claim_table.ensures.made c.claim_table.ensures.rest c.room_for.ensures.once
+returns-clause-once c = more_once c.args.space.now c.room_for.new.space c.claim_table.new.self
+    c.claim_table.ensures.made c.claim_table.ensures.rest c.room_for.ensures.once

@@ -1,9 +1,5 @@
 -- If a slot is empty, some slot is free.
-use Rattle.std.proofs.Common.{◌≡◌, Some, None, sym, ◌∙◌, arith}
-use Rattle.heap_model.specs.Bytes.{u32_at}
-use Rattle.laws_heap.proofs.Slots.{slot_stands}
-use Rattle.master_table.specs.declared.table.EmptySlot.{EmptySlot}
-use Rattle.master_table.proofs.CountLaws.{some_free}
+use Rattle.mem_manager.proofs.Laws.{◌≡◌, Some, None, sym, ◌∙◌, arith, u32_at, slot_stands, EmptySlot, some_free}
 use Rattle.mem_manager.proofs.heap.making.next_empty_slot.Goals as goal
 
 some_slot : (s : EmptySlot) → Some s ≡ None → ⊥

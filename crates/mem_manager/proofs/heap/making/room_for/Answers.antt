@@ -1,8 +1,5 @@
 -- A size beyond the limit is short of room, and nothing moves.
-use Rattle.std.proofs.Common.{arith}
-use Rattle.heap_model.specs.Chunk.{need}
-use Rattle.laws_heap.proofs.Fits.{short_beyond}
-use Rattle.heap_compact.proofs.MadeRoomLaws.{slides_nothing, moves_none}
+use Rattle.mem_manager.proofs.Laws.{arith, need, short_beyond, slides_nothing, moves_none}
 use Rattle.mem_manager.proofs.heap.making.room_for.Goals as goal
 
 pub returns-in_default-clause-short : goal.returns-in_default-clause-short
@@ -12,4 +9,5 @@ pub returns-in_default-clause-slides : goal.returns-in_default-clause-slides
 returns-in_default-clause-slides c = slides_nothing c.args.space.now.bytes c.holds.ensures.accepted
 
 pub returns-in_default-clause-once : goal.returns-in_default-clause-once
-returns-in_default-clause-once c = moves_none c.args.space.now.bytes c.args.space.now.slid c.holds.ensures.accepted
+returns-in_default-clause-once c =
+    moves_none c.args.space.now.bytes c.args.space.now.slid c.holds.ensures.accepted

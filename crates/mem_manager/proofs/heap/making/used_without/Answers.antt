@@ -1,6 +1,5 @@
 -- The slots before the least number do not include the name's.
-use Rattle.std.proofs.Common.{arith}
-use Rattle.master_table.proofs.TableLaws.{not_among-number}
+use Rattle.mem_manager.proofs.Words.{arith, not_among-number}
 use Rattle.mem_manager.proofs.heap.making.used_without.Goals as goal
 
 pub returns-clause-apart : goal.returns-clause-apart

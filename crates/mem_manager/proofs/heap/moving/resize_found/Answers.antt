@@ -1,14 +1,5 @@
 -- A chunk grows where it stands or elsewhere, or the first check refuses.
-use Rattle.std.proofs.Common.{◌≡◌, sym, subst, arith}
-use Rattle.heap_model.specs.Memory.{Memory}
-use Rattle.heap_model.specs.Chunk.{need}
-use Rattle.heap_model.specs.Space.{ShortFor, MovesOneStretchAnd}
-use Rattle.heap_place.specs.Found.{IsOne}
-use Rattle.heap_place.specs.declared.found.Found.{Found}
-use Rattle.heap_compact.specs.Resized.{Resized}
-use Rattle.laws_heap.proofs.Unmoved.{nothing_alone, itself_alone}
-use Rattle.mem_manager.proofs.Growth.{never_fits, growth_locked, growth_short, grown_passes, grown_leaves, grown_moves_nothing, moved_passes}
-use Rattle.mem_manager.proofs.KnownLoans.{other_not_lent}
+use Rattle.mem_manager.proofs.Laws.{◌≡◌, sym, subst, arith, Memory, need, ShortFor, MovesOneStretchAnd, Resized, nothing_alone, itself_alone, never_fits, growth_locked, growth_short, grown_passes, grown_leaves, grown_moves_nothing, moved_passes, other_not_lent}
 use Rattle.mem_manager.proofs.heap.moving.resize_found.Goals as goal
 
 pub returns-then-grow_in_place-clause-done : goal.returns-then-grow_in_place-clause-done
@@ -38,36 +29,38 @@ returns-then-found-gt0-clause-one_stretch c =
 pub resize_by_moving-requires-clause-found : goal.resize_by_moving-requires-clause-found
 resize_by_moving-requires-clause-found c =
     let grown = c.if-grow_in_place.ensures in
-    rw c.apart.ensures (subst (λ (m : Memory). IsOne m.bytes c.args.found) (sym grown.refused) c.requires.found)
+    rw c.apart.ensures (rw (← grown.refused) at c.requires.found)
 
 pub resize_by_moving-requires-clause-unlocked : goal.resize_by_moving-requires-clause-unlocked
-resize_by_moving-requires-clause-unlocked c = let low = c.if-found-gt0.false in rw c.apart.ensures (omega arith)
+resize_by_moving-requires-clause-unlocked c =
+    let low = c.if-found-gt0.false in rw c.apart.ensures (omega arith)
 
 pub returns-then-not-resize_by_moving-clause-why : goal.returns-then-not-resize_by_moving-clause-why
 returns-then-not-resize_by_moving-clause-why c =
     let none : c.args.found.lock ≡ 0 = let low = c.if-found-gt0.false in omega arith in
     growth_short c.args.size c.holds.ensures c.requires.found (other_not_lent c.holds.ensures c.requires.found c.requires.other) c.requires.movable none c.grow_in_place.ensures.tells c.if-grow_in_place.false
     (subst (λ (m : Memory). ShortFor m.bytes c.args.found.name.0 (need c.args.size)) c.if-grow_in_place.ensures.refused
-    (subst (λ (f : Found). ShortFor c.grow_in_place.new.self.bytes f.name.0 (need c.args.size)) c.apart.ensures c.if-not-resize_by_moving.ensures.short))
+    (rw c.apart.ensures at c.if-not-resize_by_moving.ensures.short))
 
 pub returns-then-not-resize_by_moving-clause-one_stretch : goal.returns-then-not-resize_by_moving-clause-one_stretch
 returns-then-not-resize_by_moving-clause-one_stretch c =
     subst (λ (m : Memory). MovesOneStretchAnd m.bytes c.resize_by_moving.new.space.bytes c.args.found.name.0) c.if-grow_in_place.ensures.refused
-    (subst (λ (f : Found). MovesOneStretchAnd c.grow_in_place.new.self.bytes c.resize_by_moving.new.space.bytes f.name.0) c.apart.ensures c.resize_by_moving.ensures.one_stretch)
+    (rw c.apart.ensures at c.resize_by_moving.ensures.one_stretch)
 
 pub returns-clause-done : goal.returns-clause-done
 returns-clause-done c = subst (λ (m : Memory). Resized m.bytes c.resize_by_moving.new.space.bytes c.args.found.name.0 c.args.size) c.if-grow_in_place.ensures.refused
-    (subst (λ (f : Found). Resized c.grow_in_place.new.self.bytes c.resize_by_moving.new.space.bytes f.name.0 c.args.size) c.apart.ensures c.if-not-resize_by_moving.ensures.resized)
+    (rw c.apart.ensures at c.if-not-resize_by_moving.ensures.resized)
 
 pub returns-clause-could : goal.returns-clause-could
 returns-clause-could c =
     let none : c.args.found.lock ≡ 0 = let low = c.if-found-gt0.false in omega arith in
-    moved_passes c.args.size c.holds.ensures c.requires.found (other_not_lent c.holds.ensures c.requires.found c.requires.other) none
-    (λ short. c.if-not-resize_by_moving.ensures.not_short (rw c.apart.ensures (subst (λ (m : Memory). ShortFor m.bytes c.args.found.name.0 (need c.args.size)) (sym c.if-grow_in_place.ensures.refused) short)))
+    moved_passes c.args.size c.holds.ensures c.requires.found
+    (other_not_lent c.holds.ensures c.requires.found c.requires.other) none
+    (λ short. c.if-not-resize_by_moving.ensures.not_short (rw c.apart.ensures (rw (← c.if-grow_in_place.ensures.refused) at short)))
 
 pub returns-clause-unmoved : goal.returns-clause-unmoved
 returns-clause-unmoved c fits = absurd (never_fits (need c.args.size) c.holds.ensures.accepted c.requires.found c.requires.movable c.grow_in_place.ensures.tells c.if-grow_in_place.false fits)
 
 pub returns-clause-one_stretch : goal.returns-clause-one_stretch
 returns-clause-one_stretch c = subst (λ (m : Memory). MovesOneStretchAnd m.bytes c.resize_by_moving.new.space.bytes c.args.found.name.0) c.if-grow_in_place.ensures.refused
-    (subst (λ (f : Found). MovesOneStretchAnd c.grow_in_place.new.self.bytes c.resize_by_moving.new.space.bytes f.name.0) c.apart.ensures c.resize_by_moving.ensures.one_stretch)
+    (rw c.apart.ensures at c.resize_by_moving.ensures.one_stretch)
