@@ -73,12 +73,12 @@ fn rows_of(alloc: Global, image: &[u8]) -> Result<Vec<Row>, Answer>
     ensures accepted { OnOk result (Accepted image.now) }
     ensures err { IfErr result (IsTextRefusal image.now) }
 {
-    let held = match boxed_store(alloc, image) {
-        Ok(held) => held,
+    let boxed = match boxed_store(alloc, image) {
+        Ok(boxed) => boxed,
         Err(answer) => return Err(answer),
     };
-    let rows = database_rows(&alloc, held.as_store());
-    let _freed = region_of(held);
+    let rows = database_rows(&alloc, boxed.held.as_store());
+    let _freed = region_of(boxed);
     match rows {
         Ok(rows) => Ok(rows),
         Err(_) => Err(NO_MEMORY),
