@@ -79,9 +79,8 @@ only '(^|[^a-z_])failed[ ]*(::<[^(]*>)?\(' \
     ./palmheap_c/src/buffers.rt:refused_write ./palmheap_c/src/explaining.rt:refused_text \
     ./pdb_files/src/exporting.rt:refused_write ./raw_region/src/region.rt:of_zeros
 only '(^|[^a-z_])refused_(write|block|entry|text)[ ]*(::<[^(]*>)?\(' \
-    ./palmheap_c/src/database_lists.rt:document_of ./palmheap_c/src/database_lists.rt:lines_of \
+    ./palmheap_c/src/database_lists.rt:listing_of ./palmheap_c/src/pictures.rt:picture_of \
     ./palmheap_c/src/documents.rt:fault_document ./palmheap_c/src/documents.rt:listing_document \
-    ./palmheap_c/src/pictures.rt:map_of ./palmheap_c/src/pictures.rt:svg_of \
     ./palmheap_c/src/explaining.rt:palmheap_explain ./palmheap_c/src/files.rt:listing_of \
     ./palmheap_c/src/salvaging.rt:lines_of ./palmheap_c/src/salvaging.rt:salvaged_of \
     ./palmheap_c/src/opening.rt:boxed ./palmheap_c/src/opening.rt:palmheap_write_image ./palmheap_c/src/pointers.rt:keep_loan \

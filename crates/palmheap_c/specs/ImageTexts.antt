@@ -3,32 +3,29 @@ use Rattle.std.specs.Prelude.{◌≡◌, ◌⊎◌, ℕ, List}
 use Rattle.heap_model.specs.Store.{Accepted, store_of}
 use Rattle.heap_map.specs.Text.{map_text}
 use Rattle.heap_svg.specs.Drawing.{IsDrawing}
-use Rattle.program_io.specs.declared.command_line.Form.TheVariants.{Text, Json}
+use Rattle.program_io.specs.declared.command_line.Form.{Form}
 use Rattle.store_commands.specs.DatabaseForms.{rows_in}
 use Rattle.store_commands.specs.Databases.{listed_rows}
 use Rattle.palmheap_c.specs.Answers.{IsImageFault, IsMemoryAnswer}
 use Rattle.palmheap_c.specs.Buffers.{Buffer, PutsBytes}
 use Rattle.palmheap_c.specs.declared.answers.Answer.{Answer}
+use Rattle.palmheap_c.specs.declared.pictures.PictureForm.{PictureForm}
+use Rattle.palmheap_c.specs.declared.pictures.PictureForm.TheVariants.{Text, Svg}
 
--- the image is accepted, and this is its picture as text
-pub record IsMapOf (image text : List ℕ) : Type 0 where
-  pub accepted : Accepted image
-  pub text_is : text ≡ map_text image
+-- the picture of an image in each form
+abbrev pub IsDrawnIn : PictureForm → (image text : List ℕ) → Type 0
+IsDrawnIn Text image text = text ≡ map_text image
+IsDrawnIn Svg image text = IsDrawing image text
 
--- the image is accepted, and this is its picture as SVG
-pub record IsSvgOf (image text : List ℕ) : Type 0 where
+-- the image is accepted, and this is its picture, as text or as SVG
+pub record IsPictureIn (form : PictureForm) (image text : List ℕ) : Type 0 where
   pub accepted : Accepted image
-  pub drawing : IsDrawing image text
+  pub drawn : IsDrawnIn form image text
 
--- the image is accepted, and these are the lines of its databases
-pub record AreDatabaseLines (image text : List ℕ) : Type 0 where
+-- the image is accepted, and these are the lines of its databases, or their document
+pub record AreDatabasesIn (form : Form) (image text : List ℕ) : Type 0 where
   pub accepted : Accepted image
-  pub text_is : text ≡ rows_in Text (listed_rows (store_of image))
-
--- the image is accepted, and this is the document of its databases
-pub record IsDatabaseDocument (image text : List ℕ) : Type 0 where
-  pub accepted : Accepted image
-  pub text_is : text ≡ rows_in Json (listed_rows (store_of image))
+  pub text_is : text ≡ rows_in form (listed_rows (store_of image))
 
 -- an allocation failed, or this is the first fault of the image
 abbrev pub IsTextRefusal : List ℕ → Answer → Type 0

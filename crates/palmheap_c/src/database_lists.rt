@@ -4,7 +4,7 @@ ghost use Rattle.std.specs.Prelude.{◌≡◌, IfErr, IfOk, OnOk};
 ghost use Rattle.heap_model.specs.Store.{Accepted, store_of};
 ghost use Rattle.store_commands.specs.Databases.{listed_rows};
 ghost use Rattle.palmheap_c.specs.Buffers.{buffer};
-ghost use Rattle.palmheap_c.specs.ImageTexts.{AreDatabaseLines, IsDatabaseDocument, IsTextAnswer, IsTextRefusal};
+ghost use Rattle.palmheap_c.specs.ImageTexts.{AreDatabasesIn, IsTextAnswer, IsTextRefusal};
 
 use crate::answers::{Answer, NO_MEMORY};
 use crate::buffers::{put_bytes, refused_write};
@@ -23,28 +23,12 @@ pub extern "C" fn palmheap_databases(
     text: &mut [u8],
     count: &mut usize,
 ) -> Answer
-    ensures { IsTextAnswer AreDatabaseLines image.now (buffer text.old count.old)
+    ensures { IsTextAnswer (AreDatabasesIn Form.Text) image.now (buffer text.old count.old)
         (buffer text.new count.new) result }
 {
-    match lines_of(alloc, image) {
+    match listing_of(alloc, image, Form::Text) {
         Ok(bytes) => put_bytes(&bytes, text, count),
         Err(answer) => answer,
-    }
-}
-
-/// Returns the lines of the databases of an image.
-fn lines_of(alloc: Global, image: &[u8]) -> Result<Vec<u8>, Answer>
-    ensures ok { IfOk result (λ text. AreDatabaseLines image.now text.items) }
-    ensures err { IfErr result (IsTextRefusal image.now) }
-{
-    let rows = match rows_of(alloc, image) {
-        Ok(rows) => rows,
-        Err(answer) => return Err(answer),
-    };
-    let mut out = Counted::new(Vec::new(alloc));
-    match put_databases(&mut out, Form::Text, &rows) {
-        Ok(()) => Ok(out.into_inner()),
-        Err(_) => Err(refused_write(alloc, &out)),
     }
 }
 
@@ -58,18 +42,18 @@ pub extern "C" fn palmheap_databases_json(
     text: &mut [u8],
     count: &mut usize,
 ) -> Answer
-    ensures { IsTextAnswer IsDatabaseDocument image.now (buffer text.old count.old)
+    ensures { IsTextAnswer (AreDatabasesIn Form.Json) image.now (buffer text.old count.old)
         (buffer text.new count.new) result }
 {
-    match document_of(alloc, image) {
+    match listing_of(alloc, image, Form::Json) {
         Ok(bytes) => put_bytes(&bytes, text, count),
         Err(answer) => answer,
     }
 }
 
-/// Returns the document of the databases of an image.
-fn document_of(alloc: Global, image: &[u8]) -> Result<Vec<u8>, Answer>
-    ensures ok { IfOk result (λ text. IsDatabaseDocument image.now text.items) }
+/// Returns the lines of the databases of an image, or their document.
+fn listing_of(alloc: Global, image: &[u8], form: Form) -> Result<Vec<u8>, Answer>
+    ensures ok { IfOk result (λ text. AreDatabasesIn form image.now text.items) }
     ensures err { IfErr result (IsTextRefusal image.now) }
 {
     let rows = match rows_of(alloc, image) {
@@ -77,7 +61,7 @@ fn document_of(alloc: Global, image: &[u8]) -> Result<Vec<u8>, Answer>
         Err(answer) => return Err(answer),
     };
     let mut out = Counted::new(Vec::new(alloc));
-    match put_databases(&mut out, Form::Json, &rows) {
+    match put_databases(&mut out, form, &rows) {
         Ok(()) => Ok(out.into_inner()),
         Err(_) => Err(refused_write(alloc, &out)),
     }
@@ -89,12 +73,12 @@ fn rows_of(alloc: Global, image: &[u8]) -> Result<Vec<Row>, Answer>
     ensures accepted { OnOk result (Accepted image.now) }
     ensures err { IfErr result (IsTextRefusal image.now) }
 {
-    let held = match boxed_store(alloc, image) {
-        Ok(held) => held,
+    let boxed = match boxed_store(alloc, image) {
+        Ok(boxed) => boxed,
         Err(answer) => return Err(answer),
     };
-    let rows = database_rows(&alloc, held.as_store());
-    let _freed = region_of(held);
+    let rows = database_rows(&alloc, boxed.held.as_store());
+    let _freed = region_of(boxed);
     match rows {
         Ok(rows) => Ok(rows),
         Err(_) => Err(NO_MEMORY),

@@ -19,6 +19,29 @@ use raw_region::Region;
 use std::alloc::Global;
 use std::mem::{ManuallyDrop, replace};
 
+/// A store in a box. It can't be dropped: the end of a box alone would not free the store's memory.
+pub(crate) struct BoxedStore {
+    pub(crate) held: Box<Held, Global>,
+}
+
+impl BoxedStore {
+    /// Takes the box apart, for a place in C.
+    fn into_parts(self) -> Parts<Held, Global>
+        ensures { result.value ≡ self.held.value }
+    {
+        let BoxedStore { held } = self;
+        Parts::of(held)
+    }
+
+    /// Takes the store out of the box.
+    fn into_store(self) -> Store
+        ensures { result ≡ self.held.value.memory }
+    {
+        let BoxedStore { held } = self;
+        Box::into_inner(held).into_store()
+    }
+}
+
 /// Opens an image: checks it, and copies it into a store that lives until `palmheap_close`. Sets
 /// `store` to it, or to none if it fails. A store that was in `store` before is not closed.
 #[unsafe(no_mangle)]
@@ -30,7 +53,7 @@ pub extern "C" fn palmheap_open(alloc: Global, image: &[u8], store: &mut Slot) -
 {
     match boxed_store(alloc, image) {
         Ok(made) => {
-            put(store, Slot::of(Parts::of(made)));
+            put(store, Slot::of(made.into_parts()));
             NO_FAULT
         }
         Err(answer) => {
@@ -50,8 +73,8 @@ fn put(place: &mut Slot, slot: Slot)
 
 /// Makes a store of a copy of an image, in a box. No function returns a store by value: it would take
 /// 64 KB of stack more.
-pub(crate) fn boxed_store(alloc: Global, image: &[u8]) -> Result<Box<Held, Global>, Answer>
-    ensures store { IfOk result (λ made. IsNewlyOpen image.now made.value) }
+pub(crate) fn boxed_store(alloc: Global, image: &[u8]) -> Result<BoxedStore, Answer>
+    ensures store { IfOk result (λ made. IsNewlyOpen image.now made.held.value) }
     ensures refused { IfErr result (λ answer. IsMemoryAnswer answer ⊎ IsImageFault image.now answer) }
     ensures faulty { IfErr result (λ answer. answer ≢ no_fault) }
 {
@@ -64,14 +87,15 @@ pub(crate) fn boxed_store(alloc: Global, image: &[u8]) -> Result<Box<Held, Globa
 /// Makes a store of a checked region, in a box. It is never inlined: the check that its caller makes
 /// before has no stack for a store.
 #[inline(never)]
-fn boxed(alloc: Global, region: Region) -> Result<Box<Held, Global>, Answer>
+fn boxed(alloc: Global, region: Region) -> Result<BoxedStore, Answer>
     requires accepted { Accepted region.bytes }
     requires whole { region.lents ≡ [] }
-    ensures held { IfOk result (λ made. made.value ≡ record { memory = region; pointers = [] }) }
+    ensures held { IfOk result
+        (λ made. made.held.value ≡ record { memory = region; pointers = [] }) }
     ensures refused { IfErr result IsMemoryAnswer }
 {
     match Box::new(alloc, Held::of(alloc, Store::of_accepted(region))) {
-        Ok(made) => Ok(made),
+        Ok(held) => Ok(BoxedStore { held }),
         Err(error) => {
             let _unused = error.value.into_store();
             Err(refused_block(alloc))
@@ -82,12 +106,12 @@ fn boxed(alloc: Global, region: Region) -> Result<Box<Held, Global>, Answer>
 /// Returns the region of a store, of which no chunk may be lent, and frees the store. It is never
 /// inlined: its caller has no stack for a store.
 #[inline(never)]
-pub(crate) fn region_of(held: Box<Held, Global>) -> Region
-    requires { held.value.memory.lents ≡ [] }
-    ensures same { result ≡ held.value.memory }
+pub(crate) fn region_of(boxed: BoxedStore) -> Region
+    requires { boxed.held.value.memory.lents ≡ [] }
+    ensures same { result ≡ boxed.held.value.memory }
     ensures accepted { Accepted result.bytes }
 {
-    match Box::into_inner(held).into_store().into_region() {
+    match boxed.into_store().into_region() {
         Ok(region) => region,
         Err(_lent) => unreachable!(),
     }
@@ -109,12 +133,14 @@ pub extern "C" fn palmheap_close(alloc: Global, store: &mut Slot) -> u32
         let _none = unsafe { ManuallyDrop::new_unchecked(slot) };
         return 0;
     }
-    let kept = slot.into_parts(alloc).into_box();
-    if kept.is_lent() {
-        put(store, Slot::of(Parts::of(kept)));
+    let kept = BoxedStore {
+        held: slot.into_parts(alloc).into_box(),
+    };
+    if kept.held.is_lent() {
+        put(store, Slot::of(kept.into_parts()));
         return refused(Refusal::Lent);
     }
-    let _closed = Box::into_inner(kept).into_store();
+    let _closed = kept.into_store();
     0
 }
 

@@ -8,8 +8,7 @@ ghost use Rattle.palmheap_c.specs.Runs.{HasResults, IsRunAnswer, IsRunRefusal, R
 use crate::answers::{Answer, NO_FAULT, NO_MEMORY, NO_ROOM};
 use crate::buffers::refused_write;
 use crate::inputs::{copied_all, joined};
-use crate::kept::Held;
-use crate::opening::{boxed_store, region_of};
+use crate::opening::{BoxedStore, boxed_store, region_of};
 use crate::results::{Results, Sizes, have_room};
 use heap_model::Bytes;
 use palm_script::{LineFault, RunFault, Script, ScriptFault, parse, run};
@@ -87,13 +86,13 @@ fn run_on(
     ensures whole { IfOk result (λ done. done.0.lents ≡ []) }
     ensures refused { IfErr result (IsRunRefusal image.now script.now) }
 {
-    let (mut held, script) = match read(alloc, image, script) {
+    let (mut boxed, script) = match read(alloc, image, script) {
         Ok(read) => read,
         Err(answer) => return Err(answer),
     };
     let mut out = Counted::new(Vec::new(alloc));
-    let ran = run(alloc, &mut held.store, &script, inputs, &mut out);
-    let after = region_of(held);
+    let ran = run(alloc, &mut boxed.held.store, &script, inputs, &mut out);
+    let after = region_of(boxed);
     match ran {
         Ok(files) => Ok((after, out.into_inner(), files)),
         Err(RunFault::OutOfMemory) => Err(NO_MEMORY),
@@ -106,19 +105,19 @@ fn read<'a>(
     alloc: Global,
     image: &[u8],
     script: &'a [u8],
-) -> Result<(Box<Held, Global>, Script<'a>), Answer>
-    ensures store { IfOk result (λ read. IsOpenStore image.now read.0.value.memory) }
+) -> Result<(BoxedStore, Script<'a>), Answer>
+    ensures store { IfOk result (λ read. IsOpenStore image.now read.0.held.value.memory) }
     ensures script { IfOk result (λ read. read_script script.now ≡ Ok read.1) }
     ensures refused { IfErr result (IsRunRefusal image.now script.now) }
 {
-    let held = match boxed_store(alloc, image) {
-        Ok(held) => held,
+    let boxed = match boxed_store(alloc, image) {
+        Ok(boxed) => boxed,
         Err(answer) => return Err(answer),
     };
     match parse(alloc, script) {
-        Ok(script) => Ok((held, script)),
+        Ok(script) => Ok((boxed, script)),
         Err(fault) => {
-            let _freed = region_of(held);
+            let _freed = region_of(boxed);
             Err(of_line(fault))
         }
     }
