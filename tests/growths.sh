@@ -87,8 +87,7 @@ only '(^|[^a-z_])refused_(write|block|entry|text)[ ]*(::<[^(]*>)?\(' \
     ./palmheap_c/src/runs.rt:run_on ./pdb_files/src/exporting.rt:file_bytes
 # the vectors of the program itself grow without a grant; the other two functions pass one on
 only '\.push\(' \
-    ./command_files/src/files.rt:read_files ./file_commands/src/folders.rt:read_parts \
-    ./palmheap_program/src/stores.rt:words_of \
+    ./command_files/src/files.rt:read_files ./palmheap_program/src/stores.rt:words_of \
     ./script_lines/src/reading.rt:parse_from ./script_lines/src/value.rt:add_value
 
 # Out of memory can be invented by a request that no allocator grants: a clause says that an allocation failed, not that
