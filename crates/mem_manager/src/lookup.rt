@@ -214,19 +214,23 @@ pub(crate) fn check_here(space: &Space, found: Found) -> Result<(), Refusal>
     if space.is_whole() {
         return Ok(());
     }
-    check_mark(space, found)
+    check_mark(space, found.place)
 }
 
-/// The same where something is lent.
+/// Refuses a place at which a lent body begins. It takes no `Found`, which a caller would write to
+/// memory for it.
 #[cold]
 #[inline(never)]
-fn check_mark(space: &Space, found: Found) -> Result<(), Refusal>
-    requires found { IsOne space.now.bytes found }
-    ensures ok { OnOk result (LendsOther space.now found.place.0) }
-    ensures err { OnErr result (BeginsAt found.place.0 space.now.lents) }
+#[tactic(auto, using(crate::proofs::KnownLoans::none_begins))]
+fn check_mark(space: &Space, place: Place) -> Result<(), Refusal>
+    ensures ok { OnOk result (LendsOther space.now place.0) }
+    ensures err { OnErr result (BeginsAt place.0 space.now.lents) }
     ensures refusal { IfErr result (λ refusal. refusal ≡ Refusal.Lent) }
 {
-    check_here_in_line(space, found)
+    if space.region().lends_from(place.0) {
+        return Err(Refusal::Lent);
+    }
+    Ok(())
 }
 
 /// The same as `check_here`, for reads, which may be many while something is lent: the mark is found
