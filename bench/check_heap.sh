@@ -1,5 +1,5 @@
 #!/bin/sh
-# Times the checker of heap images beside the same checks in plain C, on two images of 16,777,208
+# Times the checker of heap images next to the same checks in plain C, on two images of 16,777,208
 # bytes, and prints the times of both in milliseconds and the ratio, Rattle's time over C's.
 #
 # usage: bench/check_heap.sh [REPEATS [ROUNDS]]
@@ -7,7 +7,7 @@
 # In each round the C program and then the Rattle program check the image REPEATS times. Both
 # programs time in process. `best` is the least time of all rounds, `median` the median of the
 # rounds' medians, and `floor` the time that C takes to read each word of the image once. It needs rt,
-# cc and python3. The first run in a clone proves the crates that it stands on.
+# cc and python3. The first run in a clone proves the crates that it uses.
 set -eu
 
 repeats=${1:-50}

@@ -1,12 +1,12 @@
 #!/bin/sh
-# Times the checker of stores beside the checker of heaps, on images that the program makes itself, and
+# Times the checker of stores next to the checker of heaps, on images that the program makes itself, and
 # prints what is found of each image, the times of both in milliseconds and the ratio, the store's over
 # the heap's.
 #
 # usage: bench/check_store.sh [REPEATS]
 #
 # Each image is checked REPEATS times by both, which take turns. It needs rt. The first run in a clone
-# proves the crates that it stands on.
+# proves the crates that it uses.
 set -eu
 
 repeats=${1:-50}

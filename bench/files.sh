@@ -1,5 +1,5 @@
 #!/bin/sh
-# Times the import and the export of a database beside the same in plain C: 60,000 records of 238 bytes, a file of
+# Times the import and the export of a database next to the same in plain C: 60,000 records of 238 bytes, a file of
 # 14,760,080 bytes, and an image of 16,777,208 bytes with 65,535 slots. The offsets of the file rise, or all IDs are
 # equal, or all records begin at one offset. It prints the processor time in nanoseconds, of both programs, and the
 # ratio of the best times, Rattle's over C's.
@@ -9,7 +9,7 @@
 # bench/turns.sh says what a turn is. The script stops if the two programs end with different sums over the lengths
 # of files or over the words of images and files. Where perl has Palm::PDB (Debian's package libpalm-pdb-perl) it
 # prints how many milliseconds that takes to load such a file and to write it. It needs rt and gcc. The first run in
-# a clone proves the crates that it stands on.
+# a clone proves the crates that it uses.
 set -eu
 
 rounds=${1:-5}

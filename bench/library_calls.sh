@@ -1,5 +1,5 @@
 #!/bin/sh
-# Times calls on an open store through the library for C beside the same calls of Rattle, on heaps of 16,777,208 bytes
+# Times calls on an open store through the library for C next to the same calls of Rattle, on heaps of 16,777,208 bytes
 # with a chunk under each of 65,535 slots, and on one of 2,048 bytes with 16. It prints the processor time of a call in
 # nanoseconds, the best of both programs, and the difference: what a call through C costs more.
 #
@@ -7,7 +7,7 @@
 #
 # The programs are bench/memory_calls.c over the shared library, and crates/benchmarks. bench/turns.sh says what a turn
 # is. The script stops if the two end with different sums over their replies or over the words of their heaps. It needs
-# rt, gcc, ld, objcopy and ar. The first run in a clone proves the crates that it stands on.
+# rt, gcc, ld, objcopy and ar. The first run in a clone proves the crates that it uses.
 set -eu
 
 rounds=${1:-5}

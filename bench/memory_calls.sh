@@ -1,5 +1,5 @@
 #!/bin/sh
-# Times calls of the memory manager beside the same calls in plain C, on heaps of 16,777,208 bytes
+# Times calls of the memory manager next to the same calls in plain C, on heaps of 16,777,208 bytes
 # with a chunk under each of 65,535 slots, and on one of 2,048 bytes with 16. It prints the processor
 # time of a call in nanoseconds, of both programs, and the ratio of the best times, Rattle's over C's.
 #
@@ -7,7 +7,7 @@
 #
 # bench/turns.sh says what a turn is. The script stops if the two programs end with different sums over
 # their replies or over the words of their heaps. It needs rt and gcc. The first run in a clone proves the
-# crates that it stands on.
+# crates that it uses.
 set -eu
 
 rounds=${1:-5}

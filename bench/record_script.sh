@@ -1,6 +1,6 @@
 #!/bin/bash
 # Times a script of 60,000 `recnew` lines, run by `palmheap run` on an image of 16,777,208 bytes with 65,535
-# slots, beside the C program bench/record_calls.c that makes the same records in memory. It prints the wall
+# slots, next to the C program bench/record_calls.c that makes the same records in memory. It prints the wall
 # time and the processor time of each run, in seconds.
 #
 # usage: bench/record_script.sh [RECORDS [TURNS]]
@@ -19,7 +19,7 @@ work=$(mktemp -d)
 trap 'rm -rf "$work"' EXIT
 TIMEFORMAT='%R %U %S'
 
-# The lines that make the database and the records, of 0 to 64 bytes, each behind the last, as bench/record_calls.c
+# The lines that make the database and the records, of 0 to 64 bytes, each after the last, as bench/record_calls.c
 # does.
 lines_of_records() {
     echo 'create records "Records" "DATA" "Test" 0 0'

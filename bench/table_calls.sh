@@ -1,5 +1,5 @@
 #!/bin/sh
-# Times calls of the memory manager on a heap of 16,777,208 bytes with 4,000 further tables of 15 slots, beside the same
+# Times calls of the memory manager on a heap of 16,777,208 bytes with 4,000 further tables of 15 slots, next to the same
 # calls in plain C, and those on a heap with as many slots in one table. It prints the processor time of a call in
 # nanoseconds, of both programs, and the ratio of the best times, Rattle's over C's.
 #
@@ -7,7 +7,7 @@
 #
 # bench/turns.sh says what a turn is. The script stops if the two programs end with different sums over
 # their replies or over the words of their heaps. It needs rt and gcc. The first run in a clone proves the
-# crates that it stands on.
+# crates that it uses.
 set -eu
 
 rounds=${1:-5}

@@ -1,4 +1,4 @@
-# What the scripts share that time calls in Rattle beside the same calls in plain C. They set `rounds` and
+# Functions of the scripts that time calls in Rattle next to the same calls in plain C. They set `rounds` and
 # `turns`, and source it in the repository's folder. It makes the folder `$work` for the run.
 #
 # In each turn the C program and then the Rattle program time so many rounds of each kind of call. `best`

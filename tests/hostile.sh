@@ -1,15 +1,15 @@
 #!/bin/bash
-# Runs the program palmheap where it gets little: less and less memory, files that may have few bytes, an output that is
-# closed or full, runs that are killed in the middle, also of unpack, and pairs of runs on one OUT. Looks at the status, at what is said,
-# and at the file that OUT names, which must be the old one or a new one, and never a part.
+# Runs the program palmheap with little of what it needs: less and less memory, files that may have few bytes, an output
+# that is closed or full. Kills runs in the middle, also of unpack, and runs pairs on one OUT. Looks at the status, at
+# what is printed, and at the file that OUT names, which must be the old one or a new one, and never a part.
 #
 #   tests/hostile.sh [PROGRAM [KILLS [PAIRS]]]
 #
 # PROGRAM is the one that `../palmheap --build` builds, if none is given. KILLS is how many runs are killed, 200 if it is
 # not given, and PAIRS how many pairs run at once, 1000 if it is not given. Needs bash, Linux with
-# /dev/full, GNU coreutils (a sleep of parts of a second among them), cmp, and 100 MB in the folder for temporary files. Takes
-# some five minutes. Each case that fails has a line on standard error; the status is 1 then. What it saw is said on
-# standard output. The gate runs none of this.
+# /dev/full, GNU coreutils (a sleep of parts of a second among them), cmp, and 100 MB in the folder for temporary files.
+# Takes some five minutes. Each case that fails has a line on standard error; the status is 1 then. Standard output has
+# the results. The gate runs none of this.
 top=$(cd -- "$(dirname -- "$0")/.." && pwd)
 program=${1:-$top/crates/palmheap/out/palmheap}
 if [ $# = 0 ]; then
@@ -40,8 +40,8 @@ is_whole() {
     cmp -s out.img old.img || cmp -s out.img new.img || wrong "$1: OUT is a part of a file"
 }
 
-# leaves NAME STATUS: after a run that ended with STATUS, OUT is the new file where that is 0 and else the old one, and no
-# other file is beside it.
+# leaves NAME STATUS: after a run that ended with STATUS, OUT is the new file if that is 0, else the old one, and no
+# other file is next to it.
 leaves() {
     case $2 in
         0) cmp -s out.img new.img || wrong "$1: status 0, and OUT is not the new file" ;;
@@ -52,7 +52,7 @@ leaves() {
     rm -f out.img.palmheap-new
 }
 
-# renewed: OUT is the old file, and nothing stands beside it.
+# renewed: OUT is the old file, and no other file is next to it.
 renewed() {
     rm -f out.img out.img.*
     cp old.img out.img
@@ -194,7 +194,7 @@ for ((number = 0; number < kills; number += 1)); do
     if cmp -s out.img old.img; then old=$((old + 1)); else new=$((new + 1)); fi
     if [ -e out.img.palmheap-new ]; then
         beside=$((beside + 1))
-        # what a killed run leaves beside OUT is no hindrance for the next, which leaves it
+        # a file that a killed run leaves next to OUT is no hindrance for the next run, which leaves it
         "$program" run large.img large.txt out.img >/dev/null || wrong 'a run behind a killed one'
         cmp -s out.img new.img || wrong 'a run behind a killed one: OUT is not the new file'
         is 'a run behind a killed one' 'out.img out.img.palmheap-new' "$(echo out.img*)"

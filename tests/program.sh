@@ -1,11 +1,11 @@
 #!/bin/sh
 # Runs the program palmheap as a whole, and looks at what no run of test_program can see: the exit status of the process,
-# and what becomes of files, links, pipes, folders and devices, where they can be written and where not, and with little memory.
+# files, links, pipes, folders and devices after a run, if they can be written and if they can't, and little memory.
 #
 #   tests/program.sh [PROGRAM]
 #
-# PROGRAM is the one that `../palmheap --build` builds, if none is given. Each case that fails has a line on standard error; the status is
-# 1 then. What needs no more than files and a runtime stands in crates/test_program.
+# PROGRAM is the one that `../palmheap --build` builds, if none is given. Each case that fails has a line on standard
+# error; the status is 1 then. Cases that need no more than files and a runtime are in crates/test_program.
 top=$(cd -- "$(dirname -- "$0")/.." && pwd)
 program=${1:-$top/crates/palmheap/out/palmheap}
 if [ $# = 0 ]; then
@@ -121,7 +121,7 @@ is 'standard output that is full' 'fault write
 standard output: No space left on device (os error 28)' "$(cat complained)"
 [ -e c.img ] && is 'an image behind replies that are not taken' none c.img
 
-# a file of which no more is taken leaves the old one, and none beside it
+# a file of which no more is taken leaves the old one, and none next to it
 cp faulty.txt b.img
 (trap '' XFSZ && ulimit -f 8 && exec "$program" new 65536 4 b.img) >printed 2>complained
 is 'a file that is not taken, status' 3 "$?"
@@ -131,7 +131,7 @@ b.img: File too large (os error 27)' "$(cat complained)"
 is 'the old file is there' frob "$(cat b.img)"
 [ -e b.img.palmheap-new ] && is 'a file beside' none b.img.palmheap-new
 
-# FILEs are imported, and exported ones go beside OUT, whole or not at all
+# FILEs are imported, and exported ones go next to OUT, whole or not at all
 {
     printf Empty
     head -c 55 /dev/zero
