@@ -160,7 +160,7 @@ static TRIALS: [(Trial, u32, Status); 14] = [
     (Trial::Run(BLANK, WRITTEN), 36, Status::Done),
     (
         Trial::Run(BLANK, "bind a 16\nbound a\n"),
-        11,
+        10,
         Status::Refused,
     ),
     (Trial::Run("00", WRITTEN), 2, Status::Refused),
@@ -170,7 +170,7 @@ static TRIALS: [(Trial, u32, Status); 14] = [
     (Trial::Migrate("00"), 2, Status::Refused),
     (Trial::Draw(ONE_DATABASE), 16, Status::Done),
     (Trial::Draw("00"), 2, Status::Refused),
-    (Trial::BadLine, 2, Status::Refused),
+    (Trial::BadLine, 1, Status::Refused),
 ];
 
 /// The outcome of a command if the allocation after the given number fails, or none does.
