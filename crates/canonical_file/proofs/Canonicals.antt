@@ -39,11 +39,19 @@ last_false false e = refl
 
 pub none_said : (changes : Changes) → IsTrue (is_none changes) → NoneSaid changes
 none_said changes e =
-    let busy = first_false changes.busy (changes.filler || (changes.ids || (changes.name || changes.order))) e in
-    let filler = first_false changes.filler (changes.ids || (changes.name || changes.order)) busy.1 in
+    let busy = first_false changes.busy
+    (changes.filler || (changes.ids || (changes.name || changes.order))) e in
+    let filler =
+    first_false changes.filler (changes.ids || (changes.name || changes.order)) busy.1 in
     let ids = first_false changes.ids (changes.name || changes.order) filler.1 in
     let name = first_false changes.name changes.order ids.1 in
-    record { busy = busy.0; filler = filler.0; ids = ids.0; name = name.0; order = last_false changes.order name.1 }
+    record {
+      busy = busy.0;
+      filler = filler.0;
+      ids = ids.0;
+      name = name.0;
+      order = last_false changes.order name.1;
+    }
 
 more_false : (a b : Bool) → IsFalse a → IsTrue (not b) → IsTrue (not (a || b))
 more_false true b e f = absurd cc
@@ -55,7 +63,9 @@ one_false false e = refl
 
 pub said_none : (changes : Changes) → NoneSaid changes → IsTrue (is_none changes)
 said_none changes none =
-    more_false changes.busy _ none.busy (more_false changes.filler _ none.filler (more_false changes.ids _ none.ids (more_false changes.name _ none.name (one_false changes.order none.order))))
+    more_false _ _ none.busy
+    (more_false _ _ none.filler
+    (more_false _ _ none.ids (more_false _ _ none.name (one_false _ none.order))))
 
 -- ---- the changes of a file
 
@@ -67,7 +77,8 @@ pub record AreTested (file : List ℕ) (changes : Changes) : Type 0 where
   pub name : Says changes.name (HasPlainName file)
   pub order : Says changes.order (IsInOrder file)
 
-stays : (file : List ℕ) (d : Database (Option (List ℕ))) (changes : Changes) → Known file d → AreTested file changes → (IsTrue (is_none changes) ↔ (file_of d ≡ file))
+stays : (file : List ℕ) (d : Database (Option (List ℕ))) (changes : Changes) → Known file d
+    → AreTested file changes → (IsTrue (is_none changes) ↔ (file_of d ≡ file))
 stays file d changes known tested = (
   λ e. (
       let none = none_said changes e in
@@ -83,16 +94,23 @@ stays file d changes known tested = (
       said_none changes (record {
         busy = tested.busy.1 kept.busy;
         filler = tested.filler.1 kept.filler;
-        ids = tested.ids.1 (λ other read. ap (λ (x : Database (Option (List ℕ))). unique_ids x) (read_once file other d read known.reads) ∙ kept.ids);
+        ids = tested.ids.1
+            (λ other read.
+            ap (λ (x : Database (Option (List ℕ))). unique_ids x)
+            (read_once file other d read known.reads) ∙ kept.ids);
         name = tested.name.1 kept.name;
         order = tested.order.1 kept.order;
       })),
 )
 
-canonical_is : (file bytes : List ℕ) (d : Database (Option (List ℕ))) → Known file d → (is : IsCanonical file bytes) → bytes ≡ file_of d
-canonical_is file bytes d known is = is.written ∙ ap file_of (read_once file is.database d is.reads known.reads)
+canonical_is : (file bytes : List ℕ) (d : Database (Option (List ℕ))) → Known file d
+    → (is : IsCanonical file bytes) → bytes ≡ file_of d
+canonical_is file bytes d known is =
+    is.written ∙ ap file_of (read_once file _ d is.reads known.reads)
 
-pub are_changes : (file ids : List ℕ) (seed : ℕ) (changes : Changes) → AreBytes file → length file ≤ most_file_bytes → HasNoFault file → AreGivenIn file ids seed → AreTested file changes → AreChanges file changes
+pub are_changes : (file ids : List ℕ) (seed : ℕ) (changes : Changes) → AreBytes file
+    → length file ≤ most_file_bytes → HasNoFault file → AreGivenIn file ids seed
+    → AreTested file changes → AreChanges file changes
 are_changes file ids seed changes bytes short good given tested =
     let d : Database (Option (List ℕ)) = database_read file ids seed in
     let known = known_of file ids seed bytes short good given in
@@ -109,36 +127,54 @@ are_changes file ids seed changes bytes short good given tested =
     }
 
 -- a file of which no word is said is its own canonical form
-pub same_form : (file ids : List ℕ) (seed : ℕ) (changes : Changes) → HasNoFault file → AreGivenIn file ids seed → AreChanges file changes → IsTrue (is_none changes) → IsCanonical file file
+pub same_form : (file ids : List ℕ) (seed : ℕ) (changes : Changes) → HasNoFault file
+    → AreGivenIn file ids seed → AreChanges file changes → IsTrue (is_none changes)
+    → IsCanonical file file
 same_form file ids seed changes good given are none =
     let d : Database (Option (List ℕ)) = database_read file ids seed in
-    let form : IsCanonical file (file_of d) = record { database = d; reads = reads file ids seed good given.have; written = refl } in
+    let form : IsCanonical file (file_of d) =
+    record { database = d; reads = reads file ids seed good given.have; written = refl } in
     subst (IsCanonical file) ((are.canonical (file_of d) form).0 none) form
 
 -- ---- the file that is written with the IDs of a canonical form
 
-canonical_by : (file bytes : List ℕ) (given : GivenIds) → HasNoFault file → GetsIds file given → bytes ≡ file_of (database_read file given.ids.items given.seed) → IsCanonical file bytes
+canonical_by : (file bytes : List ℕ) (given : GivenIds) → HasNoFault file → GetsIds file given
+    → bytes ≡ file_of (database_read file given.ids.items given.seed) → IsCanonical file bytes
 canonical_by file bytes given good gets written = record {
   database = database_read file given.ids.items given.seed;
   reads = reads file given.ids.items given.seed good gets.have;
   written = written;
 }
 
-pub canonical_if : {T E : Type 0} (file : List ℕ) (given : GivenIds) (text : T → List ℕ) (result : Result T E) → HasNoFault file → GetsIds file given
-    → IfOk result (λ one. text one ≡ file_of (database_read file given.ids.items given.seed)) → IfOk result (λ one. IsCanonical file (text one))
+pub canonical_if : {T E : Type 0} (file : List ℕ) (given : GivenIds) (text : T → List ℕ)
+    (result : Result T E)
+    → HasNoFault file → GetsIds file given
+    → IfOk result (λ one. text one ≡ file_of (database_read file given.ids.items given.seed))
+    → IfOk result (λ one. IsCanonical file (text one))
 canonical_if file given text (Ok one) good gets is = canonical_by file (text one) given good gets is
 canonical_if file given text (Err fault) good gets is = is
 
-pub wrote_canonical : {W : Type 0} (file : List ℕ) (given : GivenIds) (contents : W → Option (List ℕ)) (old new : Writing W) (result : Result ℕ CanonicalFault) → HasNoFault file → GetsIds file given
-    → IfOk result (WroteOne (λ bytes. bytes ≡ file_of (database_read file given.ids.items given.seed)) contents old new) → IfOk result (WroteCanonical file contents old new)
+pub wrote_canonical : {W : Type 0} (file : List ℕ) (given : GivenIds)
+    (contents : W → Option (List ℕ)) (old new : Writing W) (result : Result ℕ CanonicalFault)
+    → HasNoFault file → GetsIds file given
+    → IfOk result (WroteOne (λ bytes. bytes ≡ file_of (database_read file given.ids.items given.seed)) contents old new)
+    → IfOk result (WroteCanonical file contents old new)
 wrote_canonical file given contents old new (Err fault) good gets wrote = wrote
-wrote_canonical file given contents old new (Ok count) good gets wrote = (wrote.0, canonical_by file wrote.0 given good gets wrote.1, wrote.2, wrote.3)
+wrote_canonical file given contents old new (Ok count) good gets wrote =
+    (wrote.0, canonical_by file wrote.0 given good gets wrote.1, wrote.2, wrote.3)
 
-pub cut_canonical : {W : Type 0} (file : List ℕ) (given : GivenIds) (contents : W → Option (List ℕ)) (old new : Writing W) → HasNoFault file → GetsIds file given
-    → WritesOne (λ bytes. bytes ≡ file_of (database_read file given.ids.items given.seed)) contents old new false → WritesCanonical file contents old new false
-cut_canonical file given contents old new good gets wrote = (wrote.0, canonical_by file wrote.0 given good gets wrote.1, wrote.2)
+pub cut_canonical : {W : Type 0} (file : List ℕ) (given : GivenIds) (contents : W → Option (List ℕ))
+    (old new : Writing W)
+    → HasNoFault file → GetsIds file given
+    → WritesOne (λ bytes. bytes ≡ file_of (database_read file given.ids.items given.seed)) contents old new false
+    → WritesCanonical file contents old new false
+cut_canonical file given contents old new good gets wrote =
+    (wrote.0, canonical_by file wrote.0 given good gets wrote.1, wrote.2)
 
 -- ---- the name
 
-pub says_name : (file : List ℕ) (b : Bool) → HasNoFault file → (IsTrue b ↔ HasName file) → Says (not b) (HasPlainName file)
-says_name file b good is = says_not b (HasPlainName file) (λ e. (is.0 e).field, λ plain. is.1 (record { name = file_named file good; field = plain }))
+pub says_name : (file : List ℕ) (b : Bool) → HasNoFault file → (IsTrue b ↔ HasName file)
+    → Says (not b) (HasPlainName file)
+says_name file b good is =
+    says_not b (HasPlainName file)
+    (λ e. (is.0 e).field, λ plain. is.1 (record { name = file_named file good; field = plain }))

@@ -34,7 +34,11 @@ not_above n x y above = elim (cases_lt (n x) (n y)) [
   none false e f = absurd cc
 
 pub sorting : {X : Type 0} (n : X → ℕ) (xs : List X) → IsSorting n xs
-sorting {X} n [] = record { sorted = []; same = IsPermutation-refl []; rising = IsNonDecreasingBy-short n [] (omega arith) }
+sorting {X} n [] = record {
+  sorted = [];
+  same = IsPermutation-refl [];
+  rising = IsNonDecreasingBy-short n [] (omega arith);
+}
 sorting {X} n (x ∷ xs) =
     let rest = sorting n xs in
     let ys = rest.sorted in
@@ -42,7 +46,8 @@ sorting {X} n (x ∷ xs) =
     let i = prefix_len low ys in
     record {
       sorted = insert ys i x;
-      same = IsPermutation-trans (x ∷ xs) (x ∷ ys) (insert ys i x) (IsPermutation-cons x xs ys rest.same) (IsPermutation-insert ys i x);
+      same = IsPermutation-trans (x ∷ xs) (x ∷ ys) (insert ys i x)
+          (IsPermutation-cons x xs ys rest.same) (IsPermutation-insert ys i x);
       rising = IsNonDecreasingBy-insert n ys i x rest.rising (prefix_len-le-length low ys)
           (λ k d before. leb-true (n (get_or ys k d)) (n x) (prefix_len_passes low ys k d before))
           (λ k d from inside. (
@@ -58,19 +63,26 @@ record PutTo (offsets : List ℕ) (last : ℕ) (items : List _) (index : ℕ) : 
   put : ArePut offsets last items blocks index
   taken : sum_by length_within blocks + begins last items 0 ≡ begins last items index
 
-put_to : (offsets : List ℕ) (last : ℕ) (items : List _) → AreSorted offsets last items → (index : ℕ) → index ≤ length items → PutTo offsets last items index
+put_to : (offsets : List ℕ) (last : ℕ) (items : List _) → AreSorted offsets last items → (index : ℕ)
+    → index ≤ length items → PutTo offsets last items index
 put_to offsets last items sorted zero most =
     let blocks : List (Option Block) = replicate (length offsets) None in
-    let empty : All (λ block. block ≡ None) blocks = All-replicate (λ block. block ≡ None) (length offsets) None refl in
+    let empty : All (λ block. block ≡ None) blocks =
+    All-replicate (λ block. block ≡ None) (length offsets) None refl in
     let none = none_taken blocks empty in
-    record { blocks = blocks; put = nothing_put offsets last items blocks (length-replicate (length offsets) None) empty; taken = omega arith }
+    record {
+      blocks = blocks;
+      put = nothing_put offsets last items _ (length-replicate (length offsets) None) empty;
+      taken = omega arith;
+    }
 put_to offsets last items sorted (suc index) most =
     let before = put_to offsets last items sorted index (omega arith) in
     let next : index + 1 ≡ suc index = omega arith in
     subst (PutTo offsets last items) next (record {
       blocks = _;
       put = put_more offsets last items before.blocks index sorted (omega arith) before.put;
-      taken = taken_more offsets last items before.blocks index sorted (omega arith) before.put before.taken;
+      taken = taken_more offsets last items before.blocks index sorted
+          (omega arith) before.put before.taken;
     })
 
 -- ---- the places
@@ -79,7 +91,8 @@ pub record FindsPlaces (file : List ℕ) : Type 0 where
   pub blocks : List (Option Block)
   pub places : HasPlaces file blocks
 
-pub finds_places : (file : List ℕ) → HasNoFault file → length (offsets_in file) ≤ 2 ^ 32 → FindsPlaces file
+pub finds_places : (file : List ℕ) → HasNoFault file → length (offsets_in file) ≤ 2 ^ 32
+    → FindsPlaces file
 finds_places file good few =
     let starts = sorting order (starts_in (offsets_in file)) in
     let items = starts.sorted in
@@ -93,6 +106,7 @@ finds_places file good few =
         places = placed;
         are = all_put file all.blocks placed;
         within = all_within (offsets_in file) (length file) items all.blocks sorted all.put;
-        total = taken_most (length file) (entries_end file) items all.blocks (length items) (omega arith) (first_behind file items good sorted) all.taken;
+        total = taken_most (length file) (entries_end file) items all.blocks (length items)
+            (omega arith) (first_behind file items good sorted) all.taken;
       };
     }

@@ -25,36 +25,44 @@ use Rattle.canonical_file.proofs.SoundFiles.{all_whole, entry_good, entry_not_ba
 seeded : DatabaseHeader → DatabaseHeader → ℕ → DatabaseHeader
 seeded file header last = record header { seed = with_seed file.seed last }
 
-reads_as : (file : List ℕ) (d : Database (Option (List ℕ))) → HasNoFault file → IsSalvaged Distinct file d → Reads file d
+reads_as : (file : List ℕ) (d : Database (Option (List ℕ))) → HasNoFault file
+    → IsSalvaged Distinct file d → Reads file d
 unfolding seeded
 reads_as file d good is =
     let same = good_parts file good in
     record {
       good = good;
       last_seed = is.last_seed;
-      ids = subst (λ (x : Database ℕ). HaveIds (seed_in (header_in file).seed) (unique_ids x) (unique_ids d) is.last_seed) same is.ids;
-      header = is.header ∙ ap (λ (h : DatabaseHeader). seeded (header_in file) h is.last_seed) (good_header file good);
+      ids = rw same at is.ids;
+      header = is.header
+          ∙ ap (λ (h : DatabaseHeader). seeded (header_in file) h is.last_seed)
+          (good_header file good);
       entries = subst (λ (x : Database ℕ). AllZip IsReadAs x.entries d.entries) same is.entries;
       blocks = is.blocks ∙ sym (good_blocks file good);
     }
 
-salvaged_as : (file : List ℕ) (d : Database (Option (List ℕ))) → Reads file d → IsSalvaged Distinct file d
+salvaged_as : (file : List ℕ) (d : Database (Option (List ℕ))) → Reads file d
+    → IsSalvaged Distinct file d
 unfolding seeded
 salvaged_as file d read =
     let good = read.good in
     let same = sym (good_parts file good) in
     record {
       last_seed = read.last_seed;
-      ids = subst (λ (x : Database ℕ). HaveIds (seed_in (header_in file).seed) (unique_ids x) (unique_ids d) read.last_seed) same read.ids;
-      header = read.header ∙ ap (λ (h : DatabaseHeader). seeded (header_in file) h read.last_seed) (sym (good_header file good));
+      ids = rw same at read.ids;
+      header = read.header
+          ∙ ap (λ (h : DatabaseHeader). seeded (header_in file) h read.last_seed)
+          (sym (good_header file good));
       entries = subst (λ (x : Database ℕ). AllZip IsReadAs x.entries d.entries) same read.entries;
       blocks = read.blocks ∙ good_blocks file good;
     }
 
 pub good_canonical : GoodFilesAreCanonical
 good_canonical file bytes good = (
-  λ is. record { database = is.database; reads = reads_as file is.database good is.salvaged; written = is.written },
-  λ is. record { database = is.database; salvaged = salvaged_as file is.database is.reads; written = is.written },
+  λ is.
+      record { database = is.database; reads = reads_as file _ good is.salvaged; written = is.written },
+  λ is.
+      record { database = is.database; salvaged = salvaged_as file _ is.reads; written = is.written },
 )
 
 -- ---- lines that aren't there
@@ -66,14 +74,19 @@ both_none (x ∷ xs) ys e = absurd cc
 none_both : (xs ys : List ℕ) → xs ≡ [] → ys ≡ [] → xs ++ ys ≡ []
 none_both xs ys e f = ap (λ (zs : List ℕ). zs ++ ys) e ∙ f
 
-all_none : (xss : List (List ℕ)) → concat xss ≡ [] → (k : ℕ) (d : List ℕ) → k < length xss → get_or xss k d ≡ []
+all_none : (xss : List (List ℕ)) → concat xss ≡ [] → (k : ℕ) (d : List ℕ) → k < length xss
+    → get_or xss k d ≡ []
 all_none [] e k d inside = absurd (omega arith)
 all_none (xs ∷ xss) e zero d inside = (both_none xs (concat xss) e).0
-all_none (xs ∷ xss) e (suc k) d inside = all_none xss (both_none xs (concat xss) e).1 k d (omega arith)
+all_none (xs ∷ xss) e (suc k) d inside =
+    all_none xss (both_none xs (concat xss) e).1 k d (omega arith)
 
-none_all : (xss : List (List ℕ)) → ((k : ℕ) (d : List ℕ) → k < length xss → get_or xss k d ≡ []) → concat xss ≡ []
+none_all : (xss : List (List ℕ)) → ((k : ℕ) (d : List ℕ) → k < length xss → get_or xss k d ≡ [])
+    → concat xss ≡ []
 none_all [] each = refl
-none_all (xs ∷ xss) each = none_both xs (concat xss) (each 0 [] (omega arith)) (none_all xss (λ k d inside. each (suc k) d (omega arith)))
+none_all (xs ∷ xss) each =
+    none_both xs (concat xss) (each 0 [] (omega arith))
+    (none_all xss (λ k d inside. each (suc k) d (omega arith)))
 
 -- a line that isn't empty is there exactly if the test fails
 quiet : (test : Bool) (x : ℕ) (xs : List ℕ) → word (not test) (x ∷ xs) ≡ [] → test ≡ true
@@ -96,12 +109,14 @@ long_name : (name : List ℕ) → (length name == 0) ≡ false → name ≡ [] �
 long_name [] e none = absurd cc
 long_name (x ∷ xs) e none = absurd cc
 
-no_entry : (file : List ℕ) → lost_entry_lines file ≡ [] → (index : ℕ) → index < whole_entries file → is_sound_entry file (entry_in file index) ≡ true
+no_entry : (file : List ℕ) → lost_entry_lines file ≡ [] → (index : ℕ) → index < whole_entries file
+    → is_sound_entry file (entry_in file index) ≡ true
 no_entry file none index below =
     let lines = numbered (lost_entry_line file) (whole_entries file) in
     let long = length-map-range_with_len (lost_entry_line file) 0 (whole_entries file) in
     let here = all_none lines none index [] (omega arith) in
-    let is = get_or-map-range_with_len (lost_entry_line file) 0 (whole_entries file) index index [] below (omega arith) in
+    let is = get_or-map-range_with_len (lost_entry_line file) 0
+    (whole_entries file) index index [] below (omega arith) in
     quiet (is_sound_entry file (entry_in file index)) _ _ (sym is ∙ here)
 
 quiet_good : (file : List ℕ) → 78 ≤ length file → salvage_lines file ≡ [] → HasNoFault file
@@ -111,16 +126,20 @@ quiet_good file header none =
     let head = both_none (cut_line file) (chain_line file ++ name_line file) parts.0 in
     let chain = both_none (chain_line file) (name_line file) head.1 in
     let rest = both_none (lost_info_lines file) (lost_entry_lines file) parts.1 in
-    let info = both_none (lost_info_line file (codes "app") (u32_at file 52)) (lost_info_line file (codes "sort") (u32_at file 56)) rest.0 in
-    let ends = leb-true (entries_end file) (length file) (quiet (has_all_entries file) _ _ head.0) in
+    let info = both_none (lost_info_line file (codes "app") (u32_at file 52))
+    (lost_info_line file (codes "sort") (u32_at file 56)) rest.0 in
+    let ends =
+    leb-true (entries_end file) (length file) (quiet (has_all_entries file) _ _ head.0) in
     let all = all_whole file ends in
     no_fault file (record {
       whole = elim [ inl short ↦ absurd (omega arith) | inr cut ↦ absurd (omega arith) ];
       ends = no_zero (u32_at file 72) (quiet (u32_at file 72 == 0) _ _ chain.0);
       named = long_name (name_in file) (loud (length (name_in file) == 0) _ _ chain.1);
-      app_info = info_not_bad file (u32_at file 52) (quiet (is_none_or_sound file (u32_at file 52)) _ _ info.0);
-      sort_info = info_not_bad file (u32_at file 56) (quiet (is_none_or_sound file (u32_at file 56)) _ _ info.1);
-    }) (λ index below bad. entry_not_bad file (entry_in file index) (no_entry file rest.1 index (omega arith)) bad.1)
+      app_info = info_not_bad file (u32_at file 52)
+          (quiet (is_none_or_sound file (u32_at file 52)) _ _ info.0);
+      sort_info = info_not_bad file (u32_at file 56)
+          (quiet (is_none_or_sound file (u32_at file 56)) _ _ info.1);
+    }) (λ index below bad. entry_not_bad file _ (no_entry file rest.1 index (omega arith)) bad.1)
 
 -- ---- no fault, no line
 
@@ -133,28 +152,42 @@ not_chained (suc x) none = absurd (none (λ e. absurd (omega arith)))
 
 some_name : (name text : List ℕ) → (name ≡ [] → ⊥) → word (length name == 0) text ≡ []
 some_name [] text some = absurd (some refl)
-some_name (x ∷ xs) text some = ap (λ (b : Bool). word b text) (ne_eqb (length (x ∷ xs)) 0 (λ e. omega arith))
+some_name (x ∷ xs) text some =
+    ap (λ (b : Bool). word b text) (ne_eqb (length (x ∷ xs)) 0 (λ e. omega arith))
 
 good_quiet : (file : List ℕ) → HasNoFault file → salvage_lines file ≡ []
 unfolding salvage_lines
 good_quiet file good =
     let ends = (not_truncated file good).1 in
     let all = all_whole file ends in
-    let cut : cut_line file ≡ [] = passes (has_all_entries file) (count_line file) (leb-is-true (entries_end file) (length file) ends) in
-    let chain : chain_line file ≡ [] = passes (u32_at file 72 == 0) (codes "chained list: ignored\n") (not_chained (u32_at file 72) (good 1 Truncated (omega arith))) in
-    let name : name_line file ≡ [] = some_name (name_in file) (codes "name empty: Recovered\n") (good 2 Truncated (omega arith)) in
-    let app = passes (is_none_or_sound file (u32_at file 52)) (codes "app" ++ dropped_at file (u32_at file 52)) (info_good file (u32_at file 52) (good 3 Truncated (omega arith))) in
-    let sort = passes (is_none_or_sound file (u32_at file 56)) (codes "sort" ++ dropped_at file (u32_at file 56)) (info_good file (u32_at file 56) (good 4 Truncated (omega arith))) in
+    let cut : cut_line file ≡ [] = passes (has_all_entries file) (count_line file)
+    (leb-is-true (entries_end file) (length file) ends) in
+    let chain : chain_line file ≡ [] =
+    passes (u32_at file 72 == 0) (codes "chained list: ignored\n")
+    (not_chained (u32_at file 72) (good 1 Truncated (omega arith))) in
+    let name : name_line file ≡ [] =
+    some_name (name_in file) (codes "name empty: Recovered\n") (good 2 Truncated (omega arith)) in
+    let app = passes (is_none_or_sound file (u32_at file 52))
+    (codes "app" ++ dropped_at file (u32_at file 52))
+    (info_good file (u32_at file 52) (good 3 Truncated (omega arith))) in
+    let sort = passes (is_none_or_sound file (u32_at file 56))
+    (codes "sort" ++ dropped_at file (u32_at file 56))
+    (info_good file (u32_at file 56) (good 4 Truncated (omega arith))) in
     let lines = numbered (lost_entry_line file) (whole_entries file) in
     let long = length-map-range_with_len (lost_entry_line file) 0 (whole_entries file) in
     let entries : concat lines ≡ [] = none_all lines (λ k d inside.
     let below : k < whole_entries file = omega arith in
-    get_or-map-range_with_len (lost_entry_line file) 0 (whole_entries file) k k d below (omega arith)
-    ∙ passes (is_sound_entry file (entry_in file k)) (dropped_entry file k (entry_data (entry_in file k))) (entry_good file (entry_in file k) (good_offset file good k (omega arith)))) in
+    get_or-map-range_with_len (lost_entry_line file) 0 (whole_entries file) k k d below
+    (omega arith)
+    ∙ passes (is_sound_entry file (entry_in file k))
+    (dropped_entry file k (entry_data (entry_in file k)))
+    (entry_good file (entry_in file k) (good_offset file good k (omega arith)))) in
     none_both (head_lines file) (lost_info_lines file ++ lost_entry_lines file)
-    (none_both (cut_line file) (chain_line file ++ name_line file) cut (none_both (chain_line file) (name_line file) chain name))
+    (none_both (cut_line file) (chain_line file ++ name_line file) cut
+    (none_both (chain_line file) (name_line file) chain name))
     (none_both (lost_info_lines file) (lost_entry_lines file)
-    (none_both (lost_info_line file (codes "app") (u32_at file 52)) (lost_info_line file (codes "sort") (u32_at file 56)) app sort) entries)
+    (none_both (lost_info_line file (codes "app") (u32_at file 52))
+    (lost_info_line file (codes "sort") (u32_at file 56)) app sort) entries)
 
 pub good_no_line : GoodFilesHaveNoLine
 good_no_line file header = (quiet_good file header, good_quiet file)

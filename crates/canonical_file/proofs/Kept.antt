@@ -53,7 +53,8 @@ pub record IsKept (file : List ℕ) (d : Database (Option (List ℕ))) : Type 0 
 
 -- ---- the offsets of a file
 
-offsets_inside : (file : List ℕ) → HasNoFault file → (k : ℕ) → get_or (offsets_in file) k 0 ≤ length file
+offsets_inside : (file : List ℕ) → HasNoFault file → (k : ℕ)
+    → get_or (offsets_in file) k 0 ≤ length file
 offsets_inside file good k = elim (cases_lt k (length (offsets_in file))) [
   | inl inside ↦ offset_inside_file file good k inside
   | inr past ↦ let none = get_or_past (offsets_in file) k 0 past in omega arith
@@ -65,9 +66,11 @@ at_least_header true n = omega arith
 
 -- ---- its entries
 
-entry_here : (file : List ℕ) (k : ℕ) (d : Entry ℕ) → k < entry_count_in file → get_or (database_in file).entries k d ≡ entry_in file k
+entry_here : (file : List ℕ) (k : ℕ) (d : Entry ℕ) → k < entry_count_in file
+    → get_or (database_in file).entries k d ≡ entry_in file k
 unfolding database_in
-entry_here file k d inside = get_or-map-range_with_len (entry_in file) 0 (entry_count_in file) k k d inside (omega arith)
+entry_here file k d inside =
+    get_or-map-range_with_len (entry_in file) 0 (entry_count_in file) k k d inside (omega arith)
 
 entries_long : (file : List ℕ) → length (database_in file).entries ≡ entry_count_in file
 unfolding database_in
@@ -102,7 +105,8 @@ resources_there file = refl
 seeded : DatabaseHeader → ℕ → DatabaseHeader
 seeded header seed = record header { seed = with_seed header.seed seed }
 
-attributes_kept : (header : DatabaseHeader) (seed : ℕ) → (seeded header seed).attributes ≡ header.attributes
+attributes_kept : (header : DatabaseHeader) (seed : ℕ)
+    → (seeded header seed).attributes ≡ header.attributes
 unfolding seeded
 attributes_kept header seed = refl
 
@@ -110,49 +114,64 @@ name_kept : (header : DatabaseHeader) (seed : ℕ) → (seeded header seed).name
 unfolding seeded
 name_kept header seed = refl
 
-seed_kept : (header : DatabaseHeader) (seed : ℕ) → seed ≡ seed_in header.seed → seeded header seed ≡ header
+seed_kept : (header : DatabaseHeader) (seed : ℕ) → seed ≡ seed_in header.seed
+    → seeded header seed ≡ header
 unfolding seeded
 seed_kept header seed is = ap (seeded header) is ∙ sym (header_stays header)
 
 -- a header fits with a seed that fits
-pub fits_seeded : (header : DatabaseHeader) (seed : ℕ) → HeaderFits header → seed ≤ greatest_id → HeaderFits (record header { seed = with_seed header.seed seed })
+pub fits_seeded : (header : DatabaseHeader) (seed : ℕ) → HeaderFits header → seed ≤ greatest_id
+    → HeaderFits (record header { seed = with_seed header.seed seed })
 fits_seeded header seed fits most =
     let field = fits.seed in
     fits_with header header.name (with_seed header.seed seed) fits (omega arith)
 
-seed_fits : (header : DatabaseHeader) (seed : ℕ) → seed ≤ greatest_id → HeaderFits header → HeaderFits (seeded header seed)
+seed_fits : (header : DatabaseHeader) (seed : ℕ) → seed ≤ greatest_id → HeaderFits header
+    → HeaderFits (seeded header seed)
 unfolding seeded
 seed_fits header seed most fits = fits_seeded header seed fits most
 
-header_read : (file : List ℕ) (d : Database (Option (List ℕ))) → (reads : Reads file d) → d.header ≡ seeded (header_in file) reads.last_seed
+header_read : (file : List ℕ) (d : Database (Option (List ℕ))) → (reads : Reads file d)
+    → d.header ≡ seeded (header_in file) reads.last_seed
 unfolding seeded
 header_read file d reads = reads.header
 
-resources_read : (file : List ℕ) (d : Database (Option (List ℕ))) → Reads file d → has_resources d.header.attributes ≡ resources_in file
+resources_read : (file : List ℕ) (d : Database (Option (List ℕ))) → Reads file d
+    → has_resources d.header.attributes ≡ resources_in file
 resources_read file d reads =
-    ap has_resources (ap (λ (h : DatabaseHeader). h.attributes) (header_read file d reads) ∙ attributes_kept (header_in file) reads.last_seed) ∙ resources_there file
+    ap has_resources
+    (ap (λ (h : DatabaseHeader). h.attributes) (header_read file d reads)
+    ∙ attributes_kept (header_in file) reads.last_seed) ∙ resources_there file
 
-name_read : (file : List ℕ) (d : Database (Option (List ℕ))) → Reads file d → d.header.name ≡ name_in file
-name_read file d reads = ap (λ (h : DatabaseHeader). h.name) (header_read file d reads) ∙ name_kept (header_in file) reads.last_seed ∙ name_there file
+name_read : (file : List ℕ) (d : Database (Option (List ℕ))) → Reads file d
+    → d.header.name ≡ name_in file
+name_read file d reads =
+    ap (λ (h : DatabaseHeader). h.name) (header_read file d reads)
+    ∙ name_kept (header_in file) reads.last_seed ∙ name_there file
 
 -- IDs that stay leave the seed as it is
-pub seed_stays : (file : List ℕ) (d : Database (Option (List ℕ))) → (k : Known file d) → unique_ids d ≡ unique_ids (database_in file) → k.reads.last_seed ≡ seed_in (header_in file).seed
+pub seed_stays : (file : List ℕ) (d : Database (Option (List ℕ))) → (k : Known file d)
+    → unique_ids d ≡ unique_ids (database_in file)
+    → k.reads.last_seed ≡ seed_in (header_in file).seed
 seed_stays file d k same =
     let ids : List ℕ = unique_ids (database_in file) in
     let seed : ℕ = seed_in (header_in file).seed in
-    let some : All (λ id. id ≢ 0) (unique_ids d) = λ i e below. (λ none. (let here = (k.fit i e below).0 in omega arith)) in
-    let stay = ids_stay seed ids (subst (λ (xs : List ℕ). All (λ id. id ≢ 0) xs) same some) (subst (λ (xs : List ℕ). Distinct xs) same k.distinct) in
+    let some : All (λ id. id ≢ 0) (unique_ids d) =
+    λ i e below. (λ none. (let here = (k.fit i e below).0 in omega arith)) in
+    let stay = ids_stay seed ids (rw same at some) (rw same at k.distinct) in
     (given_same _ _ seed ids (unique_ids d) ids k.reads.last_seed seed k.reads.ids stay).1
 
 -- ---- the number of entries, and the offset of the first block in the new file
 
-count_read : (file : List ℕ) (d : Database (Option (List ℕ))) → Reads file d → length d.entries ≡ entry_count_in file
+count_read : (file : List ℕ) (d : Database (Option (List ℕ))) → Reads file d
+    → length d.entries ≡ entry_count_in file
 count_read file d reads =
     let all = ap length reads.blocks ∙ block_count file in
     let data_long = length-map d.entries (entry_data {Data = Option (List ℕ)}) in
     omega arith
 
-first_read : (file : List ℕ) (d : Database (Option (List ℕ))) → Reads file d → first_block d ≡ entries_end file + 2
+first_read : (file : List ℕ) (d : Database (Option (List ℕ))) → Reads file d
+    → first_block d ≡ entries_end file + 2
 first_read file d reads =
     ap (λ (r : Bool). entry_offset r (length d.entries) + 2) (resources_read file d reads)
     ∙ ap (λ (n : ℕ). entry_offset (resources_in file) n + 2) (count_read file d reads)
@@ -180,22 +199,31 @@ front_of file bytes good plain =
     let inside = (not_truncated file good).1 in
     let long : length front ≡ end = length-take-le end file inside in
     let header : 78 ≤ length front = omega arith in
-    let resources : resources_in front ≡ resources_in file = sym (resources_front front back header) ∙ ap resources_in joined in
-    let count : entry_count_in front ≡ entry_count_in file = sym (count_front front back header) ∙ ap entry_count_in joined in
-    let name : name_in front ≡ name_in file = sym (name_front front back header) ∙ ap name_in joined in
-    let next : u32_at front 72 ≡ 0 = sym (u32_front 72 front back (omega arith)) ∙ ap (λ (xs : List ℕ). u32_at xs 72) joined ∙ no_list file (good 1 Truncated (omega arith)) in
+    let resources : resources_in front ≡ resources_in file =
+    sym (resources_front front back header) ∙ ap resources_in joined in
+    let count : entry_count_in front ≡ entry_count_in file =
+    sym (count_front front back header) ∙ ap entry_count_in joined in
+    let name : name_in front ≡ name_in file =
+    sym (name_front front back header) ∙ ap name_in joined in
+    let next : u32_at front 72 ≡ 0 = sym (u32_front 72 front back (omega arith))
+    ∙ ap (λ (xs : List ℕ). u32_at xs 72) joined ∙ no_list file (good 1 Truncated (omega arith)) in
     let field : take 32 front ≡ name_field (name_in front) =
-    sym (take-append-le 32 front back (omega arith)) ∙ ap (take 32) joined ∙ plain ∙ ap name_field (sym name) in
+    sym (take-append-le 32 front back (omega arith)) ∙ ap (take 32) joined ∙ plain
+    ∙ ap name_field (sym name) in
     let ends : length front ≡ entry_offset (resources_in front) (entry_count_in front) =
-    long ∙ sym (ap (λ (r : Bool). entry_offset r (entry_count_in front)) resources ∙ ap (entry_offset (resources_in file)) count) in
+    long
+    ∙ sym (ap (λ (r : Bool). entry_offset r (entry_count_in front)) resources
+    ∙ ap (entry_offset (resources_in file)) count) in
     let shape : HasShape front = record {
       header = header;
-      name = record { name = subst IsDatabaseName (sym name) (file_named file good); field = field };
+      name =
+          record { name = subst IsDatabaseName (sym name) (file_named file good); field = field };
       next_list = next;
       ends = ends;
     } in
     let front_bytes : AreBytes front = AreBytes-slice 0 end file bytes in
-    let same : database_in front ≡ database_in file = sym (database_front front back header (omega arith)) ∙ ap database_in joined in
+    let same : database_in front ≡ database_in file =
+    sym (database_front front back header (omega arith)) ∙ ap database_in joined in
     record {
       spells = ap spelled (sym same) ∙ sym (shape_spelled front front_bytes shape).bytes_are;
       fits = subst DatabaseFits same (database_fits front front_bytes shape);
@@ -211,43 +239,62 @@ filler_two file filler =
     let two = ap length filler in
     omega arith
 
-filler_zeros : (file : List ℕ) → HasPlainFiller file → slice_range file (entries_end file) (entries_end file + 2) ≡ 0 ∷ 0 ∷ []
-filler_zeros file filler = ap (slice_range file (entries_end file)) (sym (filler_two file filler)) ∙ filler
+filler_zeros : (file : List ℕ) → HasPlainFiller file
+    → slice_range file (entries_end file) (entries_end file + 2) ≡ 0 ∷ 0 ∷ []
+filler_zeros file filler =
+    ap (slice_range file (entries_end file)) (sym (filler_two file filler)) ∙ filler
 
 -- ---- a file of which all is kept
 
 whole : DatabaseHeader → ℕ → ℕ → List (Entry ℕ) → Database ℕ
-whole header app sort entries = record { header = header; app_info = app; sort_info = sort; entries = entries }
+whole header app sort entries =
+    record { header = header; app_info = app; sort_info = sort; entries = entries }
 
-same_whole : (h g : DatabaseHeader) (a b c e : ℕ) (xs ys : List (Entry ℕ)) → h ≡ g → a ≡ b → c ≡ e → xs ≡ ys → whole h a c xs ≡ whole g b e ys
+same_whole : (h g : DatabaseHeader) (a b c e : ℕ) (xs ys : List (Entry ℕ)) → h ≡ g → a ≡ b → c ≡ e
+    → xs ≡ ys → whole h a c xs ≡ whole g b e ys
 same_whole h g a b c e xs ys p q r s = cc
 
-databases_same : (one other : Database ℕ) → one.header ≡ other.header → one.app_info ≡ other.app_info → one.sort_info ≡ other.sort_info → one.entries ≡ other.entries → one ≡ other
+databases_same : (one other : Database ℕ) → one.header ≡ other.header
+    → one.app_info ≡ other.app_info → one.sort_info ≡ other.sort_info → one.entries ≡ other.entries
+    → one ≡ other
 unfolding whole
-databases_same one other p q r s = same_whole one.header other.header one.app_info other.app_info one.sort_info other.sort_info one.entries other.entries p q r s
+databases_same one other p q r s =
+    same_whole one.header other.header one.app_info other.app_info one.sort_info other.sort_info
+    one.entries other.entries p q r s
 
 -- the places of its blocks
-blocks_stand : (file : List ℕ) (d : Database (Option (List ℕ))) → Reads file d → HasPlainFiller file → IsInOrder file → AreTiled file (first_block d) (data_in d) (offsets_in file)
+blocks_stand : (file : List ℕ) (d : Database (Option (List ℕ))) → Reads file d → HasPlainFiller file
+    → IsInOrder file → AreTiled file (first_block d) (data_in d) (offsets_in file)
 blocks_stand file d reads filler order =
     let inside = offsets_inside file reads.good in
     let start : first_of (length file) (offsets_in file) ≡ first_block d =
-    sym (least_first (nat_lt 0) 0 (length file) (offsets_in file) some_pass order inside) ∙ filler_two file filler ∙ sym (first_read file d reads) in
-    subst (λ (blocks : List (Option (List ℕ))). AreTiled file (first_block d) blocks (offsets_in file)) (sym reads.blocks)
-    (subst (λ (n : ℕ). AreTiled file n (blocks_in file) (offsets_in file)) start (tiled file order inside))
+    sym (least_first (nat_lt 0) 0 (length file) (offsets_in file) some_pass order inside)
+    ∙ filler_two file filler ∙ sym (first_read file d reads) in
+    subst (λ (blocks : List (Option (List ℕ))).
+    AreTiled file (first_block d) blocks (offsets_in file)) (sym reads.blocks)
+    (rw start at (tiled file order inside))
 
-database_stays : (file : List ℕ) (d : Database (Option (List ℕ))) → Known file d → IsKept file d → placed d ≡ database_in file
+database_stays : (file : List ℕ) (d : Database (Option (List ℕ))) → Known file d → IsKept file d
+    → placed d ≡ database_in file
 database_stays file d k kept =
     let stand = blocks_stand file d k.reads kept.filler kept.order in
     let was : Database ℕ = database_in file in
-    let app = same_head (block_offset (first_block d) d.app_info) was.app_info _ (was.sort_info ∷ map entry_data was.entries) stand.stand in
-    let sort = same_head (block_offset (first_block d + block_size d.app_info) d.sort_info) was.sort_info (running (data_from d) (map entry_data d.entries)) (map entry_data was.entries) app.1 in
+    let app = same_head (block_offset (first_block d) d.app_info) was.app_info _
+    (was.sort_info ∷ map entry_data was.entries) stand.stand in
+    let sort = same_head (block_offset (first_block d + block_size d.app_info) d.sort_info)
+    was.sort_info (running (data_from d) (map entry_data d.entries)) (map entry_data was.entries)
+    app.1 in
     databases_same (placed d) was
-    (header_read file d k.reads ∙ seed_kept (header_in file) k.reads.last_seed (seed_stays file d k kept.ids) ∙ sym (header_there file))
+    (header_read file d k.reads
+    ∙ seed_kept (header_in file) k.reads.last_seed (seed_stays file d k kept.ids)
+    ∙ sym (header_there file))
     app.0 sort.0
-    (entries_back (data_from d) was.entries d.entries k.reads.entries (all_idle file kept.busy) kept.ids sort.1)
+    (entries_back (data_from d) was.entries d.entries k.reads.entries
+    (all_idle file kept.busy) kept.ids sort.1)
 
 -- the two zeros after the entries
-zeros_there : (file : List ℕ) → HasPlainFiller file → drop (entries_end file) file ≡ 0 ∷ 0 ∷ drop (entries_end file + 2) file
+zeros_there : (file : List ℕ) → HasPlainFiller file
+    → drop (entries_end file) file ≡ 0 ∷ 0 ∷ drop (entries_end file + 2) file
 zeros_there file filler =
     let end : ℕ = entries_end file in
     let two : end + 2 - end ≡ 2 = omega arith in
@@ -256,14 +303,17 @@ zeros_there file filler =
     ∙ ap (λ (xs : List ℕ). xs ++ drop 2 (drop end file)) (filler_zeros file filler)
     ∙ ap (λ (xs : List ℕ). 0 ∷ 0 ∷ xs) (drop-drop 2 end file)
 
-pub file_stays : (file : List ℕ) (d : Database (Option (List ℕ))) → Known file d → IsKept file d → file_of d ≡ file
+pub file_stays : (file : List ℕ) (d : Database (Option (List ℕ))) → Known file d → IsKept file d
+    → file_of d ≡ file
 unfolding file_of
 file_stays file d k kept =
     let end : ℕ = entries_end file in
     let stand = blocks_stand file d k.reads kept.filler kept.order in
     let front = front_of file k.bytes k.reads.good kept.name in
-    let rest : all_bytes (data_in d) ≡ drop (end + 2) file = stand.cover ∙ ap (λ (n : ℕ). drop n file) (first_read file d k.reads) in
-    ap (λ (x : Database ℕ). spelled x ++ 0 ∷ 0 ∷ all_bytes (data_in d)) (database_stays file d k kept)
+    let rest : all_bytes (data_in d) ≡ drop (end + 2) file =
+    stand.cover ∙ ap (λ (n : ℕ). drop n file) (first_read file d k.reads) in
+    ap (λ (x : Database ℕ). spelled x ++ 0 ∷ 0 ∷ all_bytes (data_in d))
+    (database_stays file d k kept)
     ∙ ap (λ (xs : List ℕ). xs ++ 0 ∷ 0 ∷ all_bytes (data_in d)) front.spells
     ∙ ap (λ (xs : List ℕ). take end file ++ 0 ∷ 0 ∷ xs) rest
     ∙ ap (λ (xs : List ℕ). take end file ++ xs) (sym (zeros_there file kept.filler))
@@ -286,10 +336,13 @@ spelled_long d named =
     let both = length-append (header_bytes d) (flat_map entry_bytes d.entries) in
     omega arith
 
-named : (file : List ℕ) (d : Database (Option (List ℕ))) → Reads file d → IsDatabaseName d.header.name
-named file d reads = subst IsDatabaseName (sym (name_read file d reads)) (file_named file reads.good)
+named : (file : List ℕ) (d : Database (Option (List ℕ))) → Reads file d
+    → IsDatabaseName d.header.name
+named file d reads =
+    subst IsDatabaseName (sym (name_read file d reads)) (file_named file reads.good)
 
-plain_name : (file : List ℕ) (d : Database (Option (List ℕ))) → Reads file d → file_of d ≡ file → HasPlainName file
+plain_name : (file : List ℕ) (d : Database (Option (List ℕ))) → Reads file d → file_of d ≡ file
+    → HasPlainName file
 plain_name file d reads same =
     let is = named file d reads in
     let long = spelled_long (placed d) is in
@@ -299,19 +352,24 @@ plain_name file d reads same =
     ∙ ap name_field (name_read file d reads)
 
 -- how long its blocks are
-total : (d : Database (Option (List ℕ))) → length (all_bytes (data_in d)) ≡ block_size d.app_info + (block_size d.sort_info + length (all_bytes (map entry_data d.entries)))
+total : (d : Database (Option (List ℕ)))
+    → length (all_bytes (data_in d))
+    ≡ block_size d.app_info
+    + (block_size d.sort_info + length (all_bytes (map entry_data d.entries)))
 total d =
     let one = size_more d.app_info (d.sort_info ∷ map entry_data d.entries) in
     let two = size_more d.sort_info (map entry_data d.entries) in
     omega arith
 
-file_length : (file : List ℕ) (d : Database (Option (List ℕ))) → file_of d ≡ file → length file ≡ length (spelled (placed d)) + 2 + length (all_bytes (data_in d))
+file_length : (file : List ℕ) (d : Database (Option (List ℕ))) → file_of d ≡ file
+    → length file ≡ length (spelled (placed d)) + 2 + length (all_bytes (data_in d))
 file_length file d same =
     let both = length-append (spelled (placed d)) (after d) in
     let all = ap length (sym same ∙ parts d) in
     omega arith
 
-placed_fits : (file : List ℕ) (d : Database (Option (List ℕ))) → Known file d → file_of d ≡ file → DatabaseFits (placed d)
+placed_fits : (file : List ℕ) (d : Database (Option (List ℕ))) → Known file d → file_of d ≡ file
+    → DatabaseFits (placed d)
 placed_fits file d k same =
     let front = front_of file k.bytes k.reads.good (plain_name file d k.reads same) in
     let was : Database ℕ = database_in file in
@@ -323,48 +381,62 @@ placed_fits file d k same =
     let app = offset_most (first_block d) d.app_info in
     let sort = offset_most (first_block d + block_size d.app_info) d.sort_info in
     let kind : has_resources was.header.attributes ≡ has_resources d.header.attributes =
-    ap (λ (h : DatabaseHeader). has_resources h.attributes) (header_there file) ∙ resources_there file ∙ sym (resources_read file d k.reads) in
-    let count = length-with_offsets (data_from d) (map idle_entry d.entries) ∙ length-map d.entries (idle_entry {Data = Option (List ℕ)}) ∙ count_read file d k.reads in
+    ap (λ (h : DatabaseHeader). has_resources h.attributes) (header_there file)
+    ∙ resources_there file ∙ sym (resources_read file d k.reads) in
+    let count = length-with_offsets (data_from d) (map idle_entry d.entries)
+    ∙ length-map d.entries (idle_entry {Data = Option (List ℕ)}) ∙ count_read file d k.reads in
     let few = front.fits.entry_count in
     let same_count = entries_long file in
     record {
       name = named file d k.reads;
-      header = subst HeaderFits (sym (header_read file d k.reads)) (seed_fits (header_in file) k.reads.last_seed k.seed (subst HeaderFits (header_there file) front.fits.header));
+      header = subst HeaderFits (sym (header_read file d k.reads))
+          (seed_fits (header_in file) k.reads.last_seed k.seed
+          (subst HeaderFits (header_there file) front.fits.header));
       app_info = omega arith;
       sort_info = omega arith;
-      entries = fits_placed (has_resources d.header.attributes) (data_from d) was.entries d.entries k.reads.entries
-          (subst (λ (r : Bool). All (EntryFits r) was.entries) kind front.fits.entries) k.fit (omega arith);
+      entries = fits_placed (has_resources d.header.attributes) (data_from d) _ _ k.reads.entries
+          (rw kind at front.fits.entries) k.fit (omega arith);
       entry_count = omega arith;
     }
 
-database_there : (file : List ℕ) (d : Database (Option (List ℕ))) → Known file d → file_of d ≡ file → database_in file ≡ placed d
-database_there file d k same = ap database_in (sym same ∙ parts d) ∙ (spelled_heads (placed d) (after d) (placed_fits file d k same)).is
+database_there : (file : List ℕ) (d : Database (Option (List ℕ))) → Known file d → file_of d ≡ file
+    → database_in file ≡ placed d
+database_there file d k same =
+    ap database_in (sym same ∙ parts d) ∙ (spelled_heads _ (after d) (placed_fits file d k same)).is
 
 -- where its entries end
-end_there : (file : List ℕ) (d : Database (Option (List ℕ))) → Known file d → file_of d ≡ file → length (spelled (placed d)) ≡ entries_end file
+end_there : (file : List ℕ) (d : Database (Option (List ℕ))) → Known file d → file_of d ≡ file
+    → length (spelled (placed d)) ≡ entries_end file
 end_there file d k same =
     let long = length-spelled (placed d) (placed_fits file d k same) in
-    let count = length-with_offsets (data_from d) (map idle_entry d.entries) ∙ length-map d.entries (idle_entry {Data = Option (List ℕ)}) in
+    let count = length-with_offsets (data_from d) (map idle_entry d.entries)
+    ∙ length-map d.entries (idle_entry {Data = Option (List ℕ)}) in
     let front = ap (entry_offset (has_resources d.header.attributes)) count in
     let first = first_read file d k.reads in
     omega arith
 
-pub all_kept : (file : List ℕ) (d : Database (Option (List ℕ))) → Known file d → file_of d ≡ file → IsKept file d
+pub all_kept : (file : List ℕ) (d : Database (Option (List ℕ))) → Known file d → file_of d ≡ file
+    → IsKept file d
 all_kept file d k same =
     let is = database_there file d k same in
     let end : ℕ = entries_end file in
     let ends = end_there file d k same in
     let long = file_length file d same in
     let first = first_read file d k.reads in
-    let offsets : offsets_in file ≡ running (first_block d) (data_in d) = ap (λ (x : Database ℕ). data_in x) is ∙ offsets_placed d in
-    let order : IsInOrder file = subst (AreRising 0) (sym offsets) (rising_running 0 (first_block d) (data_in d) (omega arith) (omega arith)) in
+    let offsets : offsets_in file ≡ running (first_block d) (data_in d) =
+    ap (λ (x : Database ℕ). data_in x) is ∙ offsets_placed d in
+    let order : IsInOrder file = subst (AreRising 0) (sym offsets)
+    (rising_running 0 (first_block d) (data_in d) (omega arith) (omega arith)) in
     let start : first_start file ≡ first_block d =
-    least_first (nat_lt 0) 0 (length file) (offsets_in file) some_pass order (offsets_inside file k.reads.good)
+    least_first (nat_lt 0) 0 (length file) (offsets_in file) some_pass order
+    (offsets_inside file k.reads.good)
     ∙ ap (first_of (length file)) offsets
     ∙ first_running (length file) (first_block d) (data_in d) (omega arith) (omega arith) in
     let two : end + 2 - end ≡ 2 = omega arith in
     record {
-      busy = none_busy file (subst (λ (x : Database ℕ). All IsIdle x.entries) (sym is) (idle_placed (data_from d) d.entries));
+      busy = none_busy file
+          (subst (λ (x : Database ℕ). All IsIdle x.entries) (sym is)
+          (idle_placed (data_from d) d.entries));
       filler = ap (slice_range file end) (start ∙ first)
           ∙ ap (λ (n : ℕ). take n (drop end file)) two
           ∙ ap (λ (xs : List ℕ). take 2 (drop end xs)) (sym same ∙ parts d)

@@ -7,21 +7,32 @@ use Rattle.heap_model.specs.Files.{idle_attributes, idle_entry, blocks_in}
 use Rattle.pdb_format.specs.ReadFiles.{entry_read, entry_read_at}
 use Rattle.file_ids.proofs.GivenLaws.{id_there}
 
-own_at : (resources : Bool) (file : List ℕ) (start at given : ℕ) (block : Option (List ℕ)) → (resources ≡ false → given ≡ u24_at file (start + 5))
-    → entry_with (λ _. at) (idle_entry (entry_at resources file start)) ≡ entry_with (λ _. at) (entry_read (entry_at resources file start) given block)
-own_at false file start at given block own = ap (λ (n : ℕ). a_record (idle_attributes (get_or file (start + 4) 0)) n at) (sym (own refl))
+own_at : (resources : Bool) (file : List ℕ) (start at given : ℕ) (block : Option (List ℕ))
+    → (resources ≡ false → given ≡ u24_at file (start + 5))
+    → entry_with (λ _. at) (idle_entry (entry_at resources file start))
+    ≡ entry_with (λ _. at) (entry_read (entry_at resources file start) given block)
+own_at false file start at given block own =
+    ap (λ (n : ℕ). a_record (idle_attributes (get_or file (start + 4) 0)) n at) (sym (own refl))
 own_at true file start at given block own = refl
 
-some_id : (resources : Bool) (file : List ℕ) (start : ℕ) → resources ≡ false → Some (u24_at file (start + 5)) ≡ unique_id (entry_at resources file start)
+some_id : (resources : Bool) (file : List ℕ) (start : ℕ) → resources ≡ false
+    → Some (u24_at file (start + 5)) ≡ unique_id (entry_at resources file start)
 some_id false file start records = refl
 some_id true file start records = absurd cc
 
-pub own_id : (file : List ℕ) (index : ℕ) → index < entry_count_in file → resources_in file ≡ false → get_or (unique_ids (database_in file)) index 0 ≡ u24_at file (entry_offset (resources_in file) index + 5)
+pub own_id : (file : List ℕ) (index : ℕ) → index < entry_count_in file → resources_in file ≡ false
+    → get_or (unique_ids (database_in file)) index 0
+    ≡ u24_at file (entry_offset (resources_in file) index + 5)
 own_id file index inside records =
-    id_there file index (u24_at file (entry_offset (resources_in file) index + 5)) records inside (some_id (resources_in file) file (entry_offset (resources_in file) index) records)
+    id_there file index _ records inside
+    (some_id (resources_in file) file (entry_offset (resources_in file) index) records)
 
-pub own_read : (file : List ℕ) (index at : ℕ) (entry : Entry ℕ) → entry ≡ entry_in file index → index < entry_count_in file
-    → entry_with (λ _. at) (idle_entry entry) ≡ entry_with (λ _. at) (entry_read_at file (unique_ids (database_in file)) index)
+pub own_read : (file : List ℕ) (index at : ℕ) (entry : Entry ℕ) → entry ≡ entry_in file index
+    → index < entry_count_in file
+    → entry_with (λ _. at) (idle_entry entry)
+    ≡ entry_with (λ _. at) (entry_read_at file (unique_ids (database_in file)) index)
 own_read file index at entry is inside =
     ap (λ (e : Entry ℕ). entry_with (λ _. at) (idle_entry e)) is
-    ∙ own_at (resources_in file) file (entry_offset (resources_in file) index) at (get_or (unique_ids (database_in file)) index 0) (get_or (blocks_in file) (2 + index) None) (own_id file index inside)
+    ∙ own_at (resources_in file) file
+    (entry_offset (resources_in file) index) at (get_or (unique_ids (database_in file)) index 0)
+    (get_or (blocks_in file) (2 + index) None) (own_id file index inside)

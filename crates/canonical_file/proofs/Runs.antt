@@ -11,9 +11,11 @@ use Rattle.pdb_format.specs.declared.blocks.Block.{Block}
 use Rattle.canonical_file.specs.Canonical.{Continues, run_bytes}
 
 -- two neighbours
-pub neighbours : (file : List ℕ) (start mid end : ℕ) → start ≤ mid → mid ≤ end → slice_range file start mid ++ slice_range file mid end ≡ slice_range file start end
+pub neighbours : (file : List ℕ) (start mid end : ℕ) → start ≤ mid → mid ≤ end
+    → slice_range file start mid ++ slice_range file mid end ≡ slice_range file start end
 neighbours file start mid end first second =
-    append_cancel_right (slice_range file start mid ++ slice_range file mid end) (slice_range file start end) (drop end file)
+    append_cancel_right (slice_range file start mid ++ slice_range file mid end)
+    (slice_range file start end) (drop end file)
     (append_assoc (slice_range file start mid) (slice_range file mid end) (drop end file)
     ∙ ap (λ (xs : List ℕ). slice_range file start mid ++ xs) (sym (drop_split file mid end second))
     ∙ sym (drop_split file start mid first)
@@ -21,11 +23,15 @@ neighbours file start mid end first second =
 
 module _ {W : Type 0} (contents : W → Option (List ℕ)) where
   -- no block
-  pub same_run : (file : List ℕ) (w : Writing W) (run : Block) → Continues file contents w w run None run
-  same_run file w run = record { text = []; writes = nothing contents w; parts = append-nil (run_bytes file run) }
+  pub same_run : (file : List ℕ) (w : Writing W) (run : Block)
+      → Continues file contents w w run None run
+  same_run file w run =
+      record { text = []; writes = nothing contents w; parts = append-nil (run_bytes file run) }
 
   -- a block that begins where the run ends
-  pub longer_run : (file : List ℕ) (w : Writing W) (run block next : Block) → run.start ≤ run.end → block.start ≤ block.end → block.start ≡ run.end → next.start ≡ run.start → next.end ≡ block.end → Continues file contents w w run (Some block) next
+  pub longer_run : (file : List ℕ) (w : Writing W) (run block next : Block) → run.start ≤ run.end
+      → block.start ≤ block.end → block.start ≡ run.end → next.start ≡ run.start
+      → next.end ≡ block.end → Continues file contents w w run (Some block) next
   longer_run file w run block next first second meets start end =
       record {
         text = [];
@@ -37,11 +43,17 @@ module _ {W : Type 0} (contents : W → Option (List ℕ)) where
       }
 
   -- another block
-  pub new_run : (file : List ℕ) (old new : Writing W) (run block : Block) → Writes contents old new (run_bytes file run) true → Continues file contents old new run (Some block) block
-  new_run file old new run block writes = record { text = run_bytes file run; writes = writes; parts = refl }
+  pub new_run : (file : List ℕ) (old new : Writing W) (run block : Block)
+      → Writes contents old new (run_bytes file run) true
+      → Continues file contents old new run (Some block) block
+  new_run file old new run block writes =
+      record { text = run_bytes file run; writes = writes; parts = refl }
 
   -- what is written from then on completes the run and the block
-  pub continued : (file : List ℕ) (old mid new : Writing W) (run : Block) (block : Option Block) (next : Block) (rest : List ℕ) (ok : Bool) → Continues file contents old mid run block next → Writes contents mid new (run_bytes file next ++ rest) ok
+  pub continued : (file : List ℕ) (old mid new : Writing W) (run : Block) (block : Option Block)
+      (next : Block) (rest : List ℕ) (ok : Bool)
+      → Continues file contents old mid run block next
+      → Writes contents mid new (run_bytes file next ++ rest) ok
       → Writes contents old new (run_bytes file run ++ (block_bytes (bytes_at file block) ++ rest)) ok
   continued file old mid new run block next rest ok step writes =
       subst (λ (xs : List ℕ). Writes contents old new xs ok)

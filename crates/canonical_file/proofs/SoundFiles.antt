@@ -19,7 +19,8 @@ use Rattle.canonical_file.proofs.SoundParts.{inside}
 
 -- ---- an offset
 
-pub outside_or_sound : (file : List ℕ) (at : ℕ) → (is_sound_offset file at ≡ true) ⊎ IsOutside file at
+pub outside_or_sound : (file : List ℕ) (at : ℕ)
+    → (is_sound_offset file at ≡ true) ⊎ IsOutside file at
 outside_or_sound file at = elim (cases_lt at (entries_end file)) [
   | inl before ↦ inr (inl before)
   | inr after ↦ elim (cases_lt (length file) at) [
@@ -41,7 +42,8 @@ none_or at s true none e = inl (eqb-true at 0 none)
 none_or at true false some e = inr refl
 none_or at false false some e = absurd cc
 
-pub info_not_bad : (file : List ℕ) (at : ℕ) → is_none_or_sound file at ≡ true → IsBadInfo file at → ⊥
+pub info_not_bad : (file : List ℕ) (at : ℕ) → is_none_or_sound file at ≡ true → IsBadInfo file at
+    → ⊥
 info_not_bad file at good bad = elim (none_or at (is_sound_offset file at) (at == 0) refl good) [
   | inl none ↦ bad.0 none
   | inr sound ↦ sound_inside file at sound bad.1
@@ -66,20 +68,29 @@ kept at false (inl none) = sym none
 kept at false (inr sound) = absurd cc
 
 info_kept : (file : List ℕ) (at : ℕ) → (IsBadInfo file at → ⊥) → sound_info file at ≡ at
-info_kept file at good = kept at (is_sound_offset file at) (none_or at (is_sound_offset file at) (at == 0) refl (info_good file at good))
+info_kept file at good =
+    kept at (is_sound_offset file at)
+    (none_or at (is_sound_offset file at) (at == 0) refl (info_good file at good))
 
 -- ---- an entry
 
-record_not_bad : (file : List ℕ) (attributes at : ℕ) (a d z : Bool) → is_sound_offset file at ≡ a → is_deleted attributes ≡ d → (at == 0) ≡ z → (a || (d && z)) ≡ true
+record_not_bad : (file : List ℕ) (attributes at : ℕ) (a d z : Bool) → is_sound_offset file at ≡ a
+    → is_deleted attributes ≡ d → (at == 0) ≡ z → (a || (d && z)) ≡ true
     → ((at ≢ 0) ⊎ (is_deleted attributes ≡ false)) × IsOutside file at → ⊥
-record_not_bad file attributes at true d z sound deleted none e bad = sound_inside file at sound bad.1
-record_not_bad file attributes at false true true sound deleted none e ((inl some), outside) = some (eqb-true at 0 none)
-record_not_bad file attributes at false true true sound deleted none e ((inr live), outside) = absurd cc
+record_not_bad file attributes at true d z sound deleted none e bad =
+    sound_inside file at sound bad.1
+record_not_bad file attributes at false true true sound deleted none e ((inl some), outside) =
+    some (eqb-true at 0 none)
+record_not_bad file attributes at false true true sound deleted none e ((inr live), outside) =
+    absurd cc
 record_not_bad file attributes at false true false sound deleted none e bad = absurd cc
 record_not_bad file attributes at false false z sound deleted none e bad = absurd cc
 
-pub entry_not_bad : (file : List ℕ) (entry : Entry ℕ) → is_sound_entry file entry ≡ true → HasBadOffset file entry → ⊥
-entry_not_bad file (a_record attributes id at) sound bad = record_not_bad file attributes at (is_sound_offset file at) (is_deleted attributes) (at == 0) refl refl refl sound bad
+pub entry_not_bad : (file : List ℕ) (entry : Entry ℕ) → is_sound_entry file entry ≡ true
+    → HasBadOffset file entry → ⊥
+entry_not_bad file (a_record attributes id at) sound bad =
+    record_not_bad file attributes at (is_sound_offset file at) (is_deleted attributes)
+    (at == 0) refl refl refl sound bad
 entry_not_bad file (a_resource kind id at) sound bad = sound_inside file at sound bad
 
 or_left : (a d z : Bool) → a ≡ true → (a || (d && z)) ≡ true
@@ -92,13 +103,16 @@ or_both false true true e f = refl
 or_both false true false e f = absurd cc
 or_both false false z e f = absurd cc
 
-pub entry_good : (file : List ℕ) (entry : Entry ℕ) → (HasBadOffset file entry → ⊥) → is_sound_entry file entry ≡ true
+pub entry_good : (file : List ℕ) (entry : Entry ℕ) → (HasBadOffset file entry → ⊥)
+    → is_sound_entry file entry ≡ true
 entry_good file (a_record attributes id at) good = elim (outside_or_sound file at) [
   | inl sound ↦ or_left (is_sound_offset file at) (is_deleted attributes) (at == 0) sound
   | inr outside ↦ elim (cases_eq at 0) [
     | inr some ↦ absurd (good (inl some, outside))
     | inl none ↦ elim (true_or_false (is_deleted attributes)) [
-      | inl deleted ↦ or_both (is_sound_offset file at) (is_deleted attributes) (at == 0) deleted (ap (λ (n : ℕ). n == 0) none)
+      | inl deleted ↦
+          or_both (is_sound_offset file at) (is_deleted attributes) (at == 0) deleted
+          (ap (λ (n : ℕ). n == 0) none)
       | inr live ↦ absurd (good (inr live, outside))
     ]
   ]
@@ -110,31 +124,40 @@ entry_good file (a_resource kind id at) good = elim (outside_or_sound file at) [
 
 -- ---- all entries
 
-whole_count : (r : Bool) (count long : ℕ) → entry_offset r count ≤ long → min count ((long - 78) / entry_size r) ≡ count
+whole_count : (r : Bool) (count long : ℕ) → entry_offset r count ≤ long
+    → min count ((long - 78) / entry_size r) ≡ count
 whole_count false count long ends = omega arith
 whole_count true count long ends = omega arith
 
-pub all_whole : (file : List ℕ) → entries_end file ≤ length file → whole_entries file ≡ entry_count_in file
+pub all_whole : (file : List ℕ) → entries_end file ≤ length file
+    → whole_entries file ≡ entry_count_in file
 all_whole file ends = whole_count (resources_in file) (entry_count_in file) (length file) ends
 
-all_pass : {X : Type 0} (test : X → Bool) (xs : List X) → All (λ x. test x ≡ true) xs → filter test xs ≡ xs
+all_pass : {X : Type 0} (test : X → Bool) (xs : List X) → All (λ x. test x ≡ true) xs
+    → filter test xs ≡ xs
 all_pass test [] all = refl
 all_pass test (x ∷ xs) all =
     let rest = all_pass test xs (All-tail (λ x. test x ≡ true) x xs all) in
-    ap (λ (b : Bool). if b then x ∷ filter test xs else filter test xs) (All-head (λ x. test x ≡ true) x xs all)
+    ap (λ (b : Bool). if b then x ∷ filter test xs else filter test xs)
+    (All-head (λ x. test x ≡ true) x xs all)
     ∙ ap (λ ys. x ∷ ys) rest
 
-good_entries : (file : List ℕ) → HasNoFault file → All (λ entry. is_sound_entry file entry ≡ true) (numbered (entry_in file) (entry_count_in file))
+good_entries : (file : List ℕ) → HasNoFault file
+    → All (λ entry. is_sound_entry file entry ≡ true) (numbered (entry_in file) (entry_count_in file))
 good_entries file good = λ k d below.
     let long = length-map-range_with_len (entry_in file) 0 (entry_count_in file) in
     let inside : k < entry_count_in file = omega arith in
-    subst (λ (entry : Entry ℕ). is_sound_entry file entry ≡ true) (sym (get_or-map-range_with_len (entry_in file) 0 (entry_count_in file) k k d inside (omega arith)))
+    subst (λ (entry : Entry ℕ). is_sound_entry file entry ≡ true)
+    (sym (get_or-map-range_with_len (entry_in file) 0 (entry_count_in file) k k d inside (omega arith)))
     (entry_good file (entry_in file k) (good_offset file good k inside))
 
-entries_kept : (file : List ℕ) → HasNoFault file → filter (is_sound_entry file) (numbered (entry_in file) (whole_entries file)) ≡ numbered (entry_in file) (entry_count_in file)
+entries_kept : (file : List ℕ) → HasNoFault file
+    → filter (is_sound_entry file) (numbered (entry_in file) (whole_entries file))
+    ≡ numbered (entry_in file) (entry_count_in file)
 entries_kept file good =
-    ap (λ (n : ℕ). filter (is_sound_entry file) (numbered (entry_in file) n)) (all_whole file (not_truncated file good).1)
-    ∙ all_pass (is_sound_entry file) (numbered (entry_in file) (entry_count_in file)) (good_entries file good)
+    ap (λ (n : ℕ). filter (is_sound_entry file) (numbered (entry_in file) n))
+    (all_whole file (not_truncated file good).1)
+    ∙ all_pass (is_sound_entry file) _ (good_entries file good)
 
 -- ---- the sound parts of a file without fault
 
@@ -144,31 +167,44 @@ some_name (byte ∷ bytes) some = refl
 
 pub good_header : (file : List ℕ) → HasNoFault file → sound_header file ≡ header_in file
 unfolding header_in
-good_header file good = ap (λ (name : List ℕ). record (header_in file) { name = name }) (some_name (name_in file) (good 2 Truncated (omega arith)))
+good_header file good =
+    ap (λ (name : List ℕ). record (header_in file) { name = name })
+    (some_name (name_in file) (good 2 Truncated (omega arith)))
 
 whole : DatabaseHeader → ℕ → ℕ → List (Entry ℕ) → Database ℕ
-whole header app sort entries = record { header = header; app_info = app; sort_info = sort; entries = entries }
+whole header app sort entries =
+    record { header = header; app_info = app; sort_info = sort; entries = entries }
 
-same_whole : (h g : DatabaseHeader) (a b c e : ℕ) (xs ys : List (Entry ℕ)) → h ≡ g → a ≡ b → c ≡ e → xs ≡ ys → whole h a c xs ≡ whole g b e ys
+same_whole : (h g : DatabaseHeader) (a b c e : ℕ) (xs ys : List (Entry ℕ)) → h ≡ g → a ≡ b → c ≡ e
+    → xs ≡ ys → whole h a c xs ≡ whole g b e ys
 same_whole h g a b c e xs ys p q r s = cc
 
 pub good_parts : (file : List ℕ) → HasNoFault file → sound_in file ≡ database_in file
 unfolding sound_in database_in whole
 good_parts file good =
-    same_whole (sound_header file) (header_in file) (sound_info file (u32_at file 52)) (u32_at file 52) (sound_info file (u32_at file 56)) (u32_at file 56)
-    (filter (is_sound_entry file) (numbered (entry_in file) (whole_entries file))) (numbered (entry_in file) (entry_count_in file))
-    (good_header file good) (info_kept file (u32_at file 52) (good 3 Truncated (omega arith))) (info_kept file (u32_at file 56) (good 4 Truncated (omega arith))) (entries_kept file good)
+    same_whole (sound_header file) (header_in file) (sound_info file (u32_at file 52))
+    (u32_at file 52) (sound_info file (u32_at file 56)) (u32_at file 56)
+    (filter (is_sound_entry file) (numbered (entry_in file) (whole_entries file)))
+    (numbered (entry_in file) (entry_count_in file))
+    (good_header file good) (info_kept file (u32_at file 52) (good 3 Truncated (omega arith)))
+    (info_kept file (u32_at file 56) (good 4 Truncated (omega arith))) (entries_kept file good)
 
 same_offsets : (file : List ℕ) → HasNoFault file → offsets_in file ≡ sound_offsets file
 same_offsets file good = ap (λ (d : Database ℕ). data_in d) (sym (good_parts file good))
 
-same_block : (file : List ℕ) (rank at : ℕ) → HasNoFault file → block_at file rank at ≡ sound_block file rank at
+same_block : (file : List ℕ) (rank at : ℕ) → HasNoFault file
+    → block_at file rank at ≡ sound_block file rank at
 same_block file rank zero good = refl
 same_block file rank (suc at) good =
-    ap (λ (offsets : List ℕ). Some (slice_range file (suc at) (fold min (length file) (starts_behind offsets rank (suc at))))) (same_offsets file good)
+    ap (λ (offsets : List ℕ).
+    Some (slice_range file (suc at) (fold min (length file) (starts_behind offsets rank (suc at)))))
+    (same_offsets file good)
 
 pub good_blocks : (file : List ℕ) → HasNoFault file → blocks_in file ≡ sound_blocks file
 good_blocks file good =
-    ap (λ (xs : List ℕ). numbered (λ rank. block_at file rank (get_or xs rank 0)) (length xs)) (same_offsets file good)
-    ∙ same_numbered (λ rank. block_at file rank (get_or (sound_offsets file) rank 0)) (λ rank. sound_block file rank (get_or (sound_offsets file) rank 0)) 0 (length (sound_offsets file))
+    ap (λ (xs : List ℕ). numbered (λ rank. block_at file rank (get_or xs rank 0)) (length xs))
+    (same_offsets file good)
+    ∙ same_numbered (λ rank. block_at file rank (get_or (sound_offsets file) rank 0))
+    (λ rank. sound_block file rank (get_or (sound_offsets file) rank 0)) 0
+    (length (sound_offsets file))
     (λ rank low below. same_block file rank (get_or (sound_offsets file) rank 0) good)

@@ -16,26 +16,39 @@ use Rattle.canonical_file.specs.BlockNeeds.{block_need, block_slots}
 
 -- ---- by the sizes of blocks
 
-sums_by : (f : Option ℕ → ℕ) (file : List ℕ) (blocks : List (Option Block)) → All (IsBlockWithin (length file)) blocks → sum_by f (map size_of_block (map (bytes_at file) blocks)) ≡ sum_by (λ block. f (size_within block)) blocks
+sums_by : (f : Option ℕ → ℕ) (file : List ℕ) (blocks : List (Option Block))
+    → All (IsBlockWithin (length file)) blocks
+    → sum_by f (map size_of_block (map (bytes_at file) blocks))
+    ≡ sum_by (λ block. f (size_within block)) blocks
 sums_by f file [] within = refl
 sums_by f file (block ∷ blocks) within =
-    let first = sum_by-cons f (size_of_block (bytes_at file block)) (map size_of_block (map (bytes_at file) blocks)) in
-    let one : f (size_within block) ≡ f (size_of_block (bytes_at file block)) = ap f (size_is file block (All-head (IsBlockWithin (length file)) block blocks within)) in
+    let first = sum_by-cons f (size_of_block (bytes_at file block))
+    (map size_of_block (map (bytes_at file) blocks)) in
+    let one : f (size_within block) ≡ f (size_of_block (bytes_at file block)) =
+    ap f (size_is file block (All-head (IsBlockWithin (length file)) block blocks within)) in
     let rest = sums_by f file blocks (All-tail (IsBlockWithin (length file)) block blocks within) in
     let all = sum_by-cons (λ (block : Option Block). f (size_within block)) block blocks in
     omega arith
 
 -- the needs of the database of a file, by the places of its blocks
-pub bytes_are : (file : List ℕ) (blocks : List (Option Block)) → map (bytes_at file) blocks ≡ blocks_in file → All (IsBlockWithin (length file)) blocks → file_bytes file ≡ need (entries_end file) + sum_by block_need blocks
+pub bytes_are : (file : List ℕ) (blocks : List (Option Block))
+    → map (bytes_at file) blocks ≡ blocks_in file → All (IsBlockWithin (length file)) blocks
+    → file_bytes file ≡ need (entries_end file) + sum_by block_need blocks
 bytes_are file blocks are within =
     let first = sum_by-cons chunk_need (Some (entries_end file)) (block_sizes file) in
-    let rest : sum_by chunk_need (block_sizes file) ≡ sum_by block_need blocks = ap (λ (bs : List (Option (List ℕ))). sum_by chunk_need (map size_of_block bs)) (sym are) ∙ sums_by chunk_need file blocks within in
+    let rest : sum_by chunk_need (block_sizes file) ≡ sum_by block_need blocks =
+    ap (λ (bs : List (Option (List ℕ))). sum_by chunk_need (map size_of_block bs)) (sym are)
+    ∙ sums_by chunk_need file _ within in
     first ∙ ap (λ (n : ℕ). need (entries_end file) + n) rest
 
-pub slots_are : (file : List ℕ) (blocks : List (Option Block)) → map (bytes_at file) blocks ≡ blocks_in file → All (IsBlockWithin (length file)) blocks → file_slots file ≡ 1 + sum_by block_slots blocks
+pub slots_are : (file : List ℕ) (blocks : List (Option Block))
+    → map (bytes_at file) blocks ≡ blocks_in file → All (IsBlockWithin (length file)) blocks
+    → file_slots file ≡ 1 + sum_by block_slots blocks
 slots_are file blocks are within =
     let first = sum_by-cons chunk_slots (Some (entries_end file)) (block_sizes file) in
-    let rest : sum_by chunk_slots (block_sizes file) ≡ sum_by block_slots blocks = ap (λ (bs : List (Option (List ℕ))). sum_by chunk_slots (map size_of_block bs)) (sym are) ∙ sums_by chunk_slots file blocks within in
+    let rest : sum_by chunk_slots (block_sizes file) ≡ sum_by block_slots blocks =
+    ap (λ (bs : List (Option (List ℕ))). sum_by chunk_slots (map size_of_block bs)) (sym are)
+    ∙ sums_by chunk_slots file _ within in
     first ∙ ap (λ (n : ℕ). 1 + n) rest
 
 -- ---- how large they may be
@@ -48,7 +61,8 @@ slot_at_most : (block : Option Block) → block_slots block ≤ 1
 slot_at_most None = omega arith
 slot_at_most (Some block) = omega arith
 
-pub needs_at_most : (blocks : List (Option Block)) → sum_by block_need blocks ≤ sum_by length_within blocks + 15 * length blocks
+pub needs_at_most : (blocks : List (Option Block))
+    → sum_by block_need blocks ≤ sum_by length_within blocks + 15 * length blocks
 needs_at_most [] = omega arith
 needs_at_most (block ∷ blocks) =
     let one = need_at_most block in

@@ -4,7 +4,8 @@ use Rattle.heap_model.specs.DatabaseFields.{entry_size}
 use Rattle.heap_model.specs.Database.{entry_offset, resources_in, entry_count_in}
 use Rattle.canonical_file.specs.Salvage.{whole_entries}
 
-pub whole_inside : (r : Bool) (count long : ℕ) → 78 ≤ long → entry_offset r (min count ((long - 78) / entry_size r)) ≤ long
+pub whole_inside : (r : Bool) (count long : ℕ) → 78 ≤ long
+    → entry_offset r (min count ((long - 78) / entry_size r)) ≤ long
 whole_inside false count long header = omega arith
 whole_inside true count long header = omega arith
 
@@ -13,7 +14,8 @@ offset_rises false i j less = omega arith
 offset_rises true i j less = omega arith
 
 -- one of them
-pub whole_entry : (file : List ℕ) (index : ℕ) → 78 ≤ length file → index < whole_entries file → entry_offset (resources_in file) (index + 1) ≤ length file
+pub whole_entry : (file : List ℕ) (index : ℕ) → 78 ≤ length file → index < whole_entries file
+    → entry_offset (resources_in file) (index + 1) ≤ length file
 whole_entry file index header below =
     let whole = whole_inside (resources_in file) (entry_count_in file) (length file) header in
     let rises = offset_rises (resources_in file) (index + 1) (whole_entries file) (omega arith) in

@@ -1,3 +1,4 @@
+pub mod Words
 pub mod Frames
 pub mod Lending
 pub mod Chunks

@@ -1,9 +1,9 @@
 -- What is said of the error of a result, where it is known.
-use Rattle.std.proofs.Common.{◌≡◌, Result, Ok, Err, sym, subst}
-use Rattle.std.specs.Prelude.{IsErr, IsErrAnd, IfErr, OnErr}
+use Rattle.laws_heap.proofs.Words.{◌≡◌, Result, Ok, Err, sym, subst, IsErr, IsErrAnd, IfErr, OnErr}
 
 -- an error that was handed up brings what the one below brought
-pub if_err : {A E : Type 0} {brought : E} (P : E → Type 0) (result : Result A E) → IsErr result × IsErrAnd result (λ error. error ≡ brought) → P brought → IfErr result P
+pub if_err : {A E : Type 0} {brought : E} (P : E → Type 0) (result : Result A E)
+    → IsErr result × IsErrAnd result (λ error. error ≡ brought) → P brought → IfErr result P
 if_err P (Ok answer) is p = tt
 if_err P (Err error) is p = subst P (sym is.1) p
 

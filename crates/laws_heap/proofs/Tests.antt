@@ -1,9 +1,5 @@
 -- Tests and the facts that they decide.
-use Rattle.std.proofs.Common.{◌≡◌, ℕ, ◌≤◌, ◌<◌, Bool, true, false, cond, Option, Some, None, refl, arith, inl, inr}
-use Rattle.std.proofs.lemmas.Bool.{leb-true}
-use Rattle.std.proofs.lemmas.Bool.Decides.{nat_tests}
-use Rattle.std.specs.Prelude.{◌⊎◌, nat_le}
-use Rattle.std.specs.Bool.{Decides}
+use Rattle.laws_heap.proofs.Words.{◌≡◌, ℕ, ◌≤◌, ◌<◌, Bool, true, false, cond, Option, Some, None, refl, arith, inl, inr, leb-true, nat_tests, ◌⊎◌, nat_le, Decides}
 
 pub Decides-nat_le : (a b : ℕ) → Decides (nat_le a b) (a ≤ b)
 Decides-nat_le a b = (leb-true a b, λ h. grind (arith, nat_tests))
@@ -35,6 +31,7 @@ pub none_some : {A : Type 0} (o : Option A) (x : A) → o ≡ None → o ≡ Som
 none_some o x e f = cc
 
 -- a value that is there only where a test holds
-pub guarded : {A : Type 0} (b : Bool) (x y : A) → cond b (some x) None ≡ Some y → (b ≡ true) × (x ≡ y)
+pub guarded : {A : Type 0} (b : Bool) (x y : A) → cond b (some x) None ≡ Some y
+    → (b ≡ true) × (x ≡ y)
 guarded true x y e = (refl, same_some x y e)
 guarded false x y e = absurd (none_some None y refl e)

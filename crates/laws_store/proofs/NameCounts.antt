@@ -1,16 +1,10 @@
 -- How often databases name something, as sums over the databases and over the entries; so what an
 -- edit of one of them changes is one term.
-use Rattle.std.proofs.Common.{◌≡◌, ◌≢◌, ℕ, ◌+◌, ◌<◌, ◌≤◌, List, [], ◌∷◌, length, map, get_or, set, refl, ap, arith, inl, inr}
-use Rattle.std.proofs.lemmas.Bool.{cases_lt}
-use Rattle.std.proofs.lemmas.List.Elements.{All-contains}
-use Rattle.std.proofs.lemmas.List.Sums.{sum_by-cons, sum_by-set, sum_by-remove}
-use Rattle.std.specs.List.{sum_by, flat_map, filter_map, remove}
-use Rattle.heap_model.specs.Lists.{same, times}
-use Rattle.heap_model.specs.Database.{Database, Entry, a_record, a_resource, entry_data, data_in}
-use Rattle.heap_model.specs.Store.{StoredDatabase, named_by, unique_id, unique_ids, HasUniqueIds}
+use Rattle.laws_store.proofs.Words.{◌≡◌, ◌≢◌, ℕ, ◌+◌, ◌<◌, ◌≤◌, List, [], ◌∷◌, length, map, get_or, set, refl, ap, arith, inl, inr, cases_lt, All-contains, sum_by-cons, sum_by-set, sum_by-remove, sum_by, flat_map, filter_map, remove, same, times, Database, Entry, a_record, a_resource, entry_data, data_in, StoredDatabase, named_by, unique_id, unique_ids, HasUniqueIds}
 use Rattle.laws_store.proofs.Times.{times-cons, times-append, contained-times, times-all, distinct-times, times-distinct}
 
-pub times-flat_map : {X : Type 0} (q : ℕ) (f : X → List ℕ) (xs : List X) → times q (flat_map f xs) ≡ sum_by (λ x. times q (f x)) xs
+pub times-flat_map : {X : Type 0} (q : ℕ) (f : X → List ℕ) (xs : List X)
+    → times q (flat_map f xs) ≡ sum_by (λ x. times q (f x)) xs
 times-flat_map q f [] = refl
 times-flat_map q f (x ∷ xs) =
     let ih = times-flat_map q f xs in
@@ -18,7 +12,8 @@ times-flat_map q f (x ∷ xs) =
     let more = sum_by-cons (λ y. times q (f y)) x xs in
     omega arith
 
-pub times-map : {X : Type 0} (q : ℕ) (f : X → ℕ) (xs : List X) → times q (map f xs) ≡ sum_by (λ x. same (f x) q) xs
+pub times-map : {X : Type 0} (q : ℕ) (f : X → ℕ) (xs : List X)
+    → times q (map f xs) ≡ sum_by (λ x. same (f x) q) xs
 times-map q f [] = refl
 times-map q f (x ∷ xs) =
     let ih = times-map q f xs in
@@ -28,10 +23,13 @@ times-map q f (x ∷ xs) =
 
 -- ---- what databases name
 
-pub times-named : (q : ℕ) (stored : List StoredDatabase) → times q (named_by stored) ≡ sum_by (λ one. times q (data_in one.database)) stored
+pub times-named : (q : ℕ) (stored : List StoredDatabase)
+    → times q (named_by stored) ≡ sum_by (λ one. times q (data_in one.database)) stored
 times-named q stored = times-flat_map q (λ (one : StoredDatabase). data_in one.database) stored
 
-pub times-data : (q : ℕ) (database : Database ℕ) → times q (data_in database) ≡ same database.app_info q + (same database.sort_info q + sum_by (λ entry. same (entry_data entry) q) database.entries)
+pub times-data : (q : ℕ) (database : Database ℕ)
+    → times q (data_in database) ≡ same database.app_info q
+    + (same database.sort_info q + sum_by (λ entry. same (entry_data entry) q) database.entries)
 times-data q d =
     let one = times-cons q d.app_info (d.sort_info ∷ map entry_data d.entries) in
     let two = times-cons q d.sort_info (map entry_data d.entries) in
@@ -39,19 +37,22 @@ times-data q d =
     omega arith
 
 -- a database replaced, put in, taken out
-pub named-set : (q : ℕ) (stored : List StoredDatabase) (i : ℕ) (one d : StoredDatabase) → i < length stored
-    → times q (named_by (set stored i one)) + times q (data_in (get_or stored i d).database) ≡ times q (named_by stored) + times q (data_in one.database)
+pub named-set : (q : ℕ) (stored : List StoredDatabase) (i : ℕ) (one d : StoredDatabase)
+    → i < length stored → times q (named_by (set stored i one)) + times q (data_in
+    (get_or stored i d).database) ≡ times q (named_by stored) + times q (data_in one.database)
 named-set q stored i one d below =
     let new = times-named q (set stored i one) in
     let old = times-named q stored in
-    let sums = sum_by-set (λ (s : StoredDatabase). times q (data_in s.database)) stored i one d below in
+    let sums = sum_by-set (λ s. times q (data_in s.database)) stored i one d below in
     omega arith
 
-pub named-remove : (q : ℕ) (stored : List StoredDatabase) (i : ℕ) (d : StoredDatabase) → i < length stored → times q (named_by (remove stored i)) + times q (data_in (get_or stored i d).database) ≡ times q (named_by stored)
+pub named-remove : (q : ℕ) (stored : List StoredDatabase) (i : ℕ) (d : StoredDatabase)
+    → i < length stored → times q (named_by (remove stored i))
+    + times q (data_in (get_or stored i d).database) ≡ times q (named_by stored)
 named-remove q stored i d below =
     let new = times-named q (remove stored i) in
     let old = times-named q stored in
-    let sums = sum_by-remove (λ (s : StoredDatabase). times q (data_in s.database)) stored i d below in
+    let sums = sum_by-remove (λ s. times q (data_in s.database)) stored i d below in
     omega arith
 
 -- ---- IDs
@@ -61,35 +62,42 @@ unfoldable pub has_id : ℕ → Entry ℕ → ℕ
 has_id q (a_record attributes id «data») = same id q
 has_id q (a_resource kind id «data») = 0
 
-ids_counted : (q : ℕ) (entries : List (Entry ℕ)) → times q (filter_map unique_id entries) ≡ sum_by (has_id q) entries
+ids_counted : (q : ℕ) (entries : List (Entry ℕ))
+    → times q (filter_map unique_id entries) ≡ sum_by (has_id q) entries
 unfolding has_id
 ids_counted q [] = refl
 ids_counted q (a_record attributes id slot ∷ entries) =
     let ih = ids_counted q entries in
-    let one : times q (filter_map unique_id (a_record attributes id slot ∷ entries)) ≡ same id q + times q (filter_map unique_id entries) = times-cons q id (filter_map unique_id entries) in
-    let more : sum_by (has_id q) (a_record attributes id slot ∷ entries) ≡ same id q + sum_by (has_id q) entries = sum_by-cons (has_id q) (a_record attributes id slot) entries in
+    let one = times-cons q id (filter_map unique_id entries) in
+    let more = sum_by-cons (has_id q) (a_record attributes id slot) entries in
     omega arith
 ids_counted q (a_resource kind id slot ∷ entries) =
     let ih = ids_counted q entries in
-    let none : times q (filter_map unique_id (a_resource kind id slot ∷ entries)) ≡ times q (filter_map unique_id entries) = refl in
-    let more : sum_by (has_id q) (a_resource kind id slot ∷ entries) ≡ 0 + sum_by (has_id q) entries = sum_by-cons (has_id q) (a_resource kind id slot) entries in
+    let none : times q (filter_map unique_id (a_resource kind id slot ∷ entries))
+    ≡ times q (filter_map unique_id entries) = refl in
+    let more = sum_by-cons (has_id q) (a_resource kind id slot) entries in
     omega arith
 
-pub times-ids : (q : ℕ) (database : Database ℕ) → times q (unique_ids database) ≡ sum_by (has_id q) database.entries
+pub times-ids : (q : ℕ) (database : Database ℕ)
+    → times q (unique_ids database) ≡ sum_by (has_id q) database.entries
 times-ids q d = ids_counted q d.entries
 
 -- IDs are unique where none is 0 and each is that of one entry at most
-pub unique_counts : (database : Database ℕ) → HasUniqueIds database → (times 0 (unique_ids database) ≡ 0) × ((q : ℕ) → times q (unique_ids database) ≤ 1)
+pub unique_counts : (database : Database ℕ) → HasUniqueIds database
+    → (times 0 (unique_ids database) ≡ 0) × ((q : ℕ) → times q (unique_ids database) ≤ 1)
 unique_counts d u = (
   elim (cases_lt 0 (times 0 (unique_ids d))) [
-    | inl some ↦ absurd (All-contains (λ (id : ℕ). id ≢ 0) (unique_ids d) 0 u.none_zero (contained-times 0 (unique_ids d) some) refl)
+    | inl some ↦ absurd (All-contains (λ id. id ≢ 0) (unique_ids d) 0 u.none_zero
+        (contained-times 0 (unique_ids d) some) refl)
     | inr none ↦ omega arith
   ],
   distinct-times (unique_ids d) u.distinct,
 )
 
-pub counts_unique : (database : Database ℕ) → times 0 (unique_ids database) ≡ 0 → ((q : ℕ) → times q (unique_ids database) ≤ 1) → HasUniqueIds database
+pub counts_unique : (database : Database ℕ) → times 0 (unique_ids database) ≡ 0
+    → ((q : ℕ) → times q (unique_ids database) ≤ 1) → HasUniqueIds database
 counts_unique d none once = record {
-  none_zero = times-all (λ (id : ℕ). id ≢ 0) (unique_ids d) (λ q some z. (let e = ap (λ (id : ℕ). times id (unique_ids d)) z in omega arith));
+  none_zero = times-all (λ id. id ≢ 0) (unique_ids d)
+      (λ q some z. (let e = ap (λ id. times id (unique_ids d)) z in omega arith));
   distinct = times-distinct (unique_ids d) once;
 }

@@ -1,27 +1,7 @@
 -- A database that comes: a chunk of the manager's has no lock, a slot more is listed, and the room
 -- and the slots that chunks take which are made one after the other.
-use Rattle.std.proofs.Common.{◌≡◌, ◌≢◌, ℕ, zero, suc, ◌+◌, ◌*◌, ◌/◌, ◌%◌, ◌^◌, ◌<◌, ◌≤◌, Bool, true, false, cond, List, [], ◌∷◌, ◌++◌, length, Some, refl, sym, ap, ◌∙◌, append_assoc, arith, length-append, inl, inr}
-use Rattle.std.proofs.lemmas.Bool.{cases_eq}
-use Rattle.std.proofs.Math.Seq.{take-append_seam}
-use Rattle.std.proofs.lemmas.List.{append-nil}
-use Rattle.std.proofs.lemmas.List.Elements.{All-nil, All-cons}
-use Rattle.std.proofs.lemmas.List.Sums.{sum_by-cons}
-use Rattle.std.specs.Prelude.{count_by}
-use Rattle.std.specs.Option.{is_none}
-use Rattle.heap_model.specs.Bytes.{u32_at, u32_bytes}
-use Rattle.heap_model.specs.Chunk.{Chunk, free, movable, fixed, Spelled}
-use Rattle.heap_model.specs.Slots.{slots_of}
-use Rattle.heap_model.specs.Heap.{IsCallersIfFixed, HeapAccepted}
-use Rattle.heap_model.specs.Meaning.{LiveChunk, NamedHere}
-use Rattle.heap_model.specs.Reading.{held}
-use Rattle.heap_model.specs.Space.{rooms, free_slots, Short}
-use Rattle.heap_model.specs.Lists.{same, times, numbered, u32s_in}
-use Rattle.heap_model.specs.Rooms.{Lowers, makes, Stuck}
-use Rattle.byteorder.specs.Numbers.{big_from-take}
-use Rattle.laws_heap.proofs.AlteredChunks.{finds_callers}
-use Rattle.laws_heap.proofs.FoundChunks.{held_finds, finds_spelled}
+use Rattle.laws_store.proofs.Words.{◌≡◌, ◌≢◌, ℕ, zero, suc, ◌+◌, ◌*◌, ◌/◌, ◌%◌, ◌^◌, ◌<◌, ◌≤◌, Bool, true, false, cond, List, [], ◌∷◌, ◌++◌, length, Some, refl, sym, ap, ◌∙◌, append_assoc, arith, length-append, inl, inr, cases_eq, take-append_seam, append-nil, All-nil, All-cons, sum_by-cons, count_by, is_none, u32_at, u32_bytes, Chunk, free, movable, fixed, Spelled, slots_of, IsCallersIfFixed, HeapAccepted, LiveChunk, NamedHere, held, rooms, free_slots, Short, same, times, numbered, u32s_in, Lowers, makes, Stuck, big_from-take, finds_callers, held_finds, finds_spelled, fixed_live_is}
 use Rattle.laws_heap.proofs.SlotNumbers.{same_number}
-use Rattle.laws_heap.proofs.FixedNames.{fixed_live_is}
 use Rattle.laws_heap.proofs.SlidImages.{free_slots_held}
 use Rattle.laws_store.proofs.Numbers.{numbered_more, big_from-behind}
 use Rattle.laws_store.proofs.Directories.{u32s_read}
@@ -29,7 +9,8 @@ use Rattle.laws_store.proofs.Times.{same-yes, same-no, times-cons}
 
 -- ---- chunks of the manager's
 
-loose_here : (image : List ℕ) (at name : ℕ) (live : LiveChunk) (c : Chunk) → live.owner ≡ 0 → NamedHere name live at c → IsCallersIfFixed at c → Spelled image at c → live.lock ≡ 0
+loose_here : (image : List ℕ) (at name : ℕ) (live : LiveChunk) (c : Chunk) → live.owner ≡ 0
+    → NamedHere name live at c → IsCallersIfFixed at c → Spelled image at c → live.lock ≡ 0
 loose_here image at name live (free size) own n callers s = absurd n
 loose_here image at name live (movable bytes lock owner slot) own n callers s =
     let a : owner ≡ live.owner = ap (λ (l : LiveChunk). l.owner) n.1 in
@@ -41,11 +22,13 @@ loose_here image at name live (fixed bytes owner) own n callers s =
     absurd (omega arith)
 
 -- a chunk of the manager's has no lock
-pub managers_loose : (image : List ℕ) (name : ℕ) (live : LiveChunk) → HeapAccepted image → held image name ≡ Some live → live.owner ≡ 0 → live.lock ≡ 0
+pub managers_loose : (image : List ℕ) (name : ℕ) (live : LiveChunk) → HeapAccepted image
+    → held image name ≡ Some live → live.owner ≡ 0 → live.lock ≡ 0
 managers_loose image name live h e own =
     let found = held_finds image name live h e in
     let f = found.finds in
-    loose_here image found.at name live found.chunk own f.named (finds_callers image name live found.chunk found.at h f) (finds_spelled image name live found.chunk found.at h f)
+    loose_here image found.at name live found.chunk own f.named (finds_callers image name live
+    found.chunk found.at h f) (finds_spelled image name live found.chunk found.at h f)
 
 -- ---- a slot more that is listed
 
@@ -56,8 +39,10 @@ numbered_alike f g (suc n) same =
     ∙ ap (λ (xs : List ℕ). xs ++ f n ∷ []) (numbered_alike f g n (λ i less. same i (omega arith)))
     ∙ ap (λ (x : ℕ). numbered g n ++ x ∷ []) (same n (omega arith)) ∙ sym (numbered_more g n)
 
-numbered_both : (f : ℕ → ℕ) (n m : ℕ) → numbered f (n + m) ≡ numbered f n ++ numbered (λ i. f (n + i)) m
-numbered_both f n zero = (let e : n + 0 ≡ n = omega arith in ap (numbered f) e) ∙ sym (append-nil (numbered f n))
+numbered_both : (f : ℕ → ℕ) (n m : ℕ)
+    → numbered f (n + m) ≡ numbered f n ++ numbered (λ i. f (n + i)) m
+numbered_both f n zero =
+    (let e : n + 0 ≡ n = omega arith in ap (numbered f) e) ∙ sym (append-nil (numbered f n))
 numbered_both f n (suc m) =
     (let e : n + suc m ≡ suc (n + m) = omega arith in ap (numbered f) e)
     ∙ numbered_more f (n + m)
@@ -66,37 +51,49 @@ numbered_both f n (suc m) =
     ∙ ap (λ (xs : List ℕ). numbered f n ++ xs) (sym (numbered_more (λ i. f (n + i)) m))
 
 -- the bytes after the first n slots don't count for these
-u32s_front : (front back : List ℕ) (n : ℕ) → length front ≡ 4 * n → numbered (λ i. u32_at (front ++ back) (4 * i)) n ≡ numbered (λ i. u32_at front (4 * i)) n
+u32s_front : (front back : List ℕ) (n : ℕ) → length front ≡ 4 * n
+    → numbered (λ i. u32_at (front ++ back) (4 * i)) n ≡ numbered (λ i. u32_at front (4 * i)) n
 unfolding u32_at
-u32s_front front back n len = numbered_alike (λ i. u32_at (front ++ back) (4 * i)) (λ i. u32_at front (4 * i)) n (λ i less. sym (big_from-take (4 * i) 4 (length front) (front ++ back) (omega arith)) ∙ ap (λ (xs : List ℕ). u32_at xs (4 * i)) (take-append_seam front back))
+u32s_front front back n len =
+    numbered_alike (λ i. u32_at (front ++ back) (4 * i)) (λ i. u32_at front (4 * i)) n
+    (λ i less. sym (big_from-take (4 * i) 4 (length front) (front ++ back) (omega arith))
+    ∙ ap (λ xs. u32_at xs (4 * i)) (take-append_seam front back))
 
-u32s_back : (front back : List ℕ) (n m : ℕ) → length front ≡ 4 * n → numbered (λ i. u32_at (front ++ back) (4 * (n + i))) m ≡ numbered (λ i. u32_at back (4 * i)) m
+u32s_back : (front back : List ℕ) (n m : ℕ) → length front ≡ 4 * n
+    → numbered (λ i. u32_at (front ++ back) (4 * (n + i))) m ≡ numbered (λ i. u32_at back (4 * i)) m
 unfolding u32_at
-u32s_back front back n m len = numbered_alike (λ i. u32_at (front ++ back) (4 * (n + i))) (λ i. u32_at back (4 * i)) m
-    (λ i less. (let e : 4 * (n + i) ≡ 4 * n + 4 * i = omega arith in ap (u32_at (front ++ back)) e) ∙ big_from-behind (4 * n) 4 (4 * i) front back len)
+u32s_back front back n m len =
+    numbered_alike (λ i. u32_at (front ++ back) (4 * (n + i))) (λ i. u32_at back (4 * i)) m
+    (λ i less. (let e : 4 * (n + i) ≡ 4 * n + 4 * i = omega arith in ap (u32_at (front ++ back)) e)
+    ∙ big_from-behind (4 * n) 4 (4 * i) front back len)
 
 -- the slots of two directories, one after the other
-pub u32s_join : (front back : List ℕ) (n : ℕ) → length front ≡ 4 * n → u32s_in (front ++ back) ≡ u32s_in front ++ u32s_in back
+pub u32s_join : (front back : List ℕ) (n : ℕ) → length front ≡ 4 * n
+    → u32s_in (front ++ back) ≡ u32s_in front ++ u32s_in back
 u32s_join front back n len =
     let both = length-append front back in
     let count : length (front ++ back) / 4 ≡ n + length back / 4 = omega arith in
     let mine : length front / 4 ≡ n = omega arith in
     ap (numbered (λ i. u32_at (front ++ back) (4 * i))) count
     ∙ numbered_both (λ i. u32_at (front ++ back) (4 * i)) n (length back / 4)
-    ∙ ap (λ (xs : List ℕ). xs ++ numbered (λ i. u32_at (front ++ back) (4 * (n + i))) (length back / 4)) (u32s_front front back n len)
-    ∙ ap (λ (xs : List ℕ). numbered (λ i. u32_at front (4 * i)) n ++ xs) (u32s_back front back n (length back / 4) len)
+    ∙ ap (λ xs. xs ++ numbered (λ i. u32_at (front ++ back) (4 * (n + i))) (length back / 4))
+    (u32s_front front back n len)
+    ∙ ap (λ xs. numbered (λ i. u32_at front (4 * i)) n ++ xs) (u32s_back front back n _ len)
     ∙ ap (λ (k : ℕ). numbered (λ i. u32_at front (4 * i)) k ++ u32s_in back) (sym mine)
 
 -- a slot more is listed last where its bytes stand after those of the others
-pub u32s_push : (bytes : List ℕ) (slot : ℕ) → length bytes % 4 ≡ 0 → slot < 2 ^ 32 → u32s_in (bytes ++ u32_bytes slot) ≡ u32s_in bytes ++ slot ∷ []
+pub u32s_push : (bytes : List ℕ) (slot : ℕ) → length bytes % 4 ≡ 0 → slot < 2 ^ 32
+    → u32s_in (bytes ++ u32_bytes slot) ≡ u32s_in bytes ++ slot ∷ []
 u32s_push bytes slot whole fits =
     u32s_join bytes (u32_bytes slot) (length bytes / 4) (omega arith)
     ∙ ap (λ (xs : List ℕ). u32s_in bytes ++ u32s_in xs) (sym (append-nil (u32_bytes slot)))
-    ∙ ap (λ (xs : List ℕ). u32s_in bytes ++ xs) (u32s_read (slot ∷ []) (All-cons (λ x. x < 2 ^ 32) slot [] fits (All-nil (λ x. x < 2 ^ 32))))
+    ∙ ap (λ xs. u32s_in bytes ++ xs) (u32s_read (slot ∷ [])
+    (All-cons (λ x. x < 2 ^ 32) slot [] fits (All-nil (λ x. x < 2 ^ 32))))
 
 -- ---- room for two that are made
 
-pub made_then_none : (old mid : List ℕ) (size more : ℕ) → Lowers old mid size → Short mid more → Stuck (rooms old) (makes size ∷ makes more ∷ [])
+pub made_then_none : (old mid : List ℕ) (size more : ℕ) → Lowers old mid size → Short mid more
+    → Stuck (rooms old) (makes size ∷ makes more ∷ [])
 made_then_none old mid size more lowers short = inr (rooms mid, lowers.room, inl short)
 
 -- ---- slots of chunks that are made
@@ -104,12 +101,13 @@ made_then_none old mid size more lowers short = inr (rooms mid, lowers.room, inl
 abbrev bit : Bool → ℕ
 bit b = cond b 1 0
 
-count_apart : (f g : ℕ → Bool) (s : ℕ) (xs : List ℕ) → ((x : ℕ) → x ≢ s → f x ≡ g x) → count_by f xs ≤ count_by g xs + times s xs
+count_apart : (f g : ℕ → Bool) (s : ℕ) (xs : List ℕ) → ((x : ℕ) → x ≢ s → f x ≡ g x)
+    → count_by f xs ≤ count_by g xs + times s xs
 count_apart f g s [] alike = omega arith
 count_apart f g s (x ∷ xs) alike =
     let ih = count_apart f g s xs alike in
-    let mine : count_by f (x ∷ xs) ≡ bit (f x) + count_by f xs = sum_by-cons (λ (y : ℕ). cond (f y) 1 0) x xs in
-    let others : count_by g (x ∷ xs) ≡ bit (g x) + count_by g xs = sum_by-cons (λ (y : ℕ). cond (g y) 1 0) x xs in
+    let mine = sum_by-cons (λ y. cond (f y) 1 0) x xs in
+    let others = sum_by-cons (λ y. cond (g y) 1 0) x xs in
     let here = times-cons s x xs in
     let most : bit (f x) ≤ 1 = at_most_one (f x) in
     elim (cases_eq x s) [
@@ -121,21 +119,25 @@ count_apart f g s (x ∷ xs) alike =
       at_most_one false = omega arith
 
 -- an element that is only among the first ones is not among the others
-none_behind : (x : ℕ) (done xs : List ℕ) → ((front rest : List ℕ) → done ++ xs ≡ front ++ x ∷ rest → length front < length done) → times x xs ≡ 0
+none_behind : (x : ℕ) (done xs : List ℕ)
+    → ((front rest : List ℕ) → done ++ xs ≡ front ++ x ∷ rest → length front < length done)
+    → times x xs ≡ 0
 none_behind x done [] front_alone = refl
 none_behind x done (y ∷ xs) front_alone =
     let cons = times-cons x y xs in
     let long = length-append done (y ∷ []) in
     elim (cases_eq y x) [
-      | inl e ↦ absurd (let low = front_alone done xs (ap (λ (n : ℕ). done ++ n ∷ xs) e) in omega arith)
+      | inl e ↦ absurd (let low = front_alone done xs (ap (λ n. done ++ n ∷ xs) e) in omega arith)
       | inr other ↦
           let no = same-no y x other in
-          let ih = none_behind x (done ++ y ∷ []) xs (λ front rest parts. let low = front_alone front rest (sym (append_assoc done (y ∷ []) xs) ∙ parts) in omega arith) in
+          let ih = none_behind x (done ++ y ∷ []) xs (λ front rest parts. let low =
+          front_alone front rest (sym (append_assoc done (y ∷ []) xs) ∙ parts) in omega arith) in
           omega arith
     ]
 
 -- what stands in one place alone is there once
-once_there : (x : ℕ) (done xs : List ℕ) → ((front rest fore rear : List ℕ) → done ++ xs ≡ front ++ x ∷ rest → done ++ xs ≡ fore ++ x ∷ rear → length front ≡ length fore) → times x xs ≤ 1
+once_there : (x : ℕ) (done xs : List ℕ) → ((front rest fore rear : List ℕ) → done ++ xs ≡ front ++ x
+    ∷ rest → done ++ xs ≡ fore ++ x ∷ rear → length front ≡ length fore) → times x xs ≤ 1
 once_there x done [] one = omega arith
 once_there x done (y ∷ xs) one =
     let cons = times-cons x y xs in
@@ -144,23 +146,30 @@ once_there x done (y ∷ xs) one =
     elim (cases_eq y x) [
       | inl e ↦
           let yes = same-yes y x e in
-          let none = none_behind x (done ++ y ∷ []) xs (λ front rest parts. let level = one done xs front rest (ap (λ (n : ℕ). done ++ n ∷ xs) e) (sym regroup ∙ parts) in omega arith) in
+          let none = none_behind x (done ++ y ∷ []) xs (λ front rest parts. let level = one done xs
+          front rest (ap (λ n. done ++ n ∷ xs) e) (sym regroup ∙ parts) in omega arith) in
           omega arith
       | inr other ↦
           let no = same-no y x other in
-          let ih = once_there x (done ++ y ∷ []) xs (λ front rest fore rear a b. one front rest fore rear (sym regroup ∙ a) (sym regroup ∙ b)) in
+          let ih = once_there x (done ++ y ∷ []) xs (λ front rest fore rear a b.
+          one front rest fore rear (sym regroup ∙ a) (sym regroup ∙ b)) in
           omega arith
     ]
 
 one_slot : (image : List ℕ) (slot : ℕ) → HeapAccepted image → times slot (slots_of image) ≤ 1
 one_slot image slot h = once_there slot [] (slots_of image) (λ front rest fore rear a b.
-    same_number image h.0 slot (length front) (length fore) h.1.tiles (record { front = front; rest = rest; parts = a; before = refl }) (record { front = fore; rest = rear; parts = b; before = refl }))
+    same_number image h.0 slot (length front) (length fore) h.1.tiles
+    (record { front = front; rest = rest; parts = a; before = refl })
+    (record { front = fore; rest = rear; parts = b; before = refl }))
 
 -- where one name alone stands for something else, at most one slot more was free
-pub slots_made : (old new : List ℕ) (name : ℕ) → HeapAccepted old → HeapAccepted new → slots_of new ≡ slots_of old → ((other : ℕ) → other ≢ name → held new other ≡ held old other) → free_slots old ≤ free_slots new + 1
+pub slots_made : (old new : List ℕ) (name : ℕ) → HeapAccepted old → HeapAccepted new
+    → slots_of new ≡ slots_of old → ((other : ℕ) → other ≢ name → held new other ≡ held old other)
+    → free_slots old ≤ free_slots new + 1
 slots_made old new name was is slots others =
     let before = free_slots_held old was in
     let after = free_slots_held new is ∙ ap (count_by (λ slot. is_none (held new slot))) slots in
-    let apart = count_apart (λ slot. is_none (held old slot)) (λ slot. is_none (held new slot)) name (slots_of old) (λ x other. ap is_none (sym (others x other))) in
+    let apart = count_apart (λ slot. is_none (held old slot)) (λ slot. is_none (held new slot)) name
+    (slots_of old) (λ x other. ap is_none (sym (others x other))) in
     let once = one_slot old name was in
     omega arith

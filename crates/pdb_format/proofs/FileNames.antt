@@ -37,9 +37,11 @@ unfolding name_in
 file_named file good = record {
   some = some_of (name_in file) (good 2 Truncated (omega arith));
   room = name_short file;
-  none_zero = λ k d inside. no_zero _ (front_passes (λ byte. not (byte == 0)) (take 31 file) k d inside);
+  none_zero =
+      λ k d inside. no_zero _ (front_passes (λ byte. not (byte == 0)) (take 31 file) k d inside);
 }
 
 -- of its bytes none is left out
 pub name_kept : (file name : List ℕ) → name ≡ name_in file → take 32 name ≡ name_in file
-name_kept file name is = let short = name_short file in ap (take 32) is ∙ take_all 32 (name_in file) (omega arith)
+name_kept file name is =
+    let short = name_short file in ap (take 32) is ∙ take_all 32 (name_in file) (omega arith)

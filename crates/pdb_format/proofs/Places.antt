@@ -9,10 +9,12 @@ use Rattle.pdb_format.specs.ReadFiles.{entry_read}
 use Rattle.pdb_format.specs.declared.blocks.Block.{Block}
 use Rattle.pdb_format.proofs.GoodFiles.{offset_count}
 
-place_is : (file : List ℕ) (rank : ℕ) → rank < 2 + entry_count_in file → get_or (places_in file) rank None ≡ place_at file rank (slice_index (offsets_in file) rank)
+place_is : (file : List ℕ) (rank : ℕ) → rank < 2 + entry_count_in file
+    → get_or (places_in file) rank None ≡ place_at file rank (slice_index (offsets_in file) rank)
 place_is file rank inside =
     let count = offset_count file in
-    get_or-map-range_with_len (λ rank. place_at file rank (slice_index (offsets_in file) rank)) 0 (length (offsets_in file)) rank rank None (omega arith) (omega arith)
+    get_or-map-range_with_len (λ rank. place_at file rank (slice_index (offsets_in file) rank)) 0
+    (length (offsets_in file)) rank rank None (omega arith) (omega arith)
 
 -- where a block begins, or 0 if there is none
 abbrev pub start_of_place : Option Block → ℕ
@@ -24,8 +26,12 @@ start_is file rank zero = refl
 start_is file rank (suc at) = refl
 
 -- it begins at its offset
-pub place_starts : (file : List ℕ) (rank : ℕ) (block : Option Block) → rank < 2 + entry_count_in file → block ≡ get_or (places_in file) rank None → start_of_place block ≡ slice_index (offsets_in file) rank
-place_starts file rank block inside is = ap start_of_place (is ∙ place_is file rank inside) ∙ start_is file rank (slice_index (offsets_in file) rank)
+pub place_starts : (file : List ℕ) (rank : ℕ) (block : Option Block)
+    → rank < 2 + entry_count_in file → block ≡ get_or (places_in file) rank None
+    → start_of_place block ≡ slice_index (offsets_in file) rank
+place_starts file rank block inside is =
+    ap start_of_place (is ∙ place_is file rank inside)
+    ∙ start_is file rank (slice_index (offsets_in file) rank)
 
 -- ---- entries
 
@@ -34,6 +40,8 @@ abbrev pub with_given : ℕ → Entry ℕ → Entry ℕ
 with_given given (a_record attributes id at) = a_record attributes given at
 with_given given (a_resource kind id at) = a_resource kind id at
 
-pub given_written : (given at : ℕ) (block : Option (List ℕ)) (entry : Entry ℕ) → with_given given (entry_with (λ _. at) (idle_entry entry)) ≡ entry_with (λ _. at) (entry_read entry given block)
+pub given_written : (given at : ℕ) (block : Option (List ℕ)) (entry : Entry ℕ)
+    → with_given given (entry_with (λ _. at) (idle_entry entry))
+    ≡ entry_with (λ _. at) (entry_read entry given block)
 given_written given at block (a_record attributes id offset) = refl
 given_written given at block (a_resource kind id offset) = refl

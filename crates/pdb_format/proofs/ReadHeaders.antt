@@ -7,7 +7,8 @@ use Rattle.db_format.specs.declared.header.DbHeader.{DbHeader}
 use Rattle.db_format.specs.Headers.{header_values, IsHeaderOf}
 use Rattle.pdb_format.specs.ReadFiles.{header_read}
 
-pub values_are : (file : List ℕ) (header : DbHeader) → IsHeaderOf (database_in file) header → header_values header ≡ header_in file
+pub values_are : (file : List ℕ) (header : DbHeader) → IsHeaderOf (database_in file) header
+    → header_values header ≡ header_in file
 unfolding database_in
 values_are file header has = has.values
 
@@ -15,18 +16,23 @@ named : (file : List ℕ) → (header_in file).name ≡ name_in file
 unfolding header_in
 named file = refl
 
-pub name_is : (file : List ℕ) (header : DbHeader) → IsHeaderOf (database_in file) header → header.name ≡ name_in file
-name_is file header has = ap (λ (h : DatabaseHeader). h.name) (values_are file header has) ∙ named file
+pub name_is : (file : List ℕ) (header : DbHeader) → IsHeaderOf (database_in file) header
+    → header.name ≡ name_in file
+name_is file header has = ap (λ (h : DatabaseHeader). h.name) (values_are file _ has) ∙ named file
 
-pub count_is : (file : List ℕ) (header : DbHeader) → IsHeaderOf (database_in file) header → header.entry_count ≡ entry_count_in file
+pub count_is : (file : List ℕ) (header : DbHeader) → IsHeaderOf (database_in file) header
+    → header.entry_count ≡ entry_count_in file
 unfolding database_in
-count_is file header has = has.entry_count ∙ length-map-range_with_len (entry_in file) 0 (entry_count_in file)
+count_is file header has =
+    has.entry_count ∙ length-map-range_with_len (entry_in file) 0 (entry_count_in file)
 
 -- a header with this seed
 seeded : DatabaseHeader → ℕ → DatabaseHeader
 seeded header seed = record header { seed = seed }
 
-pub header_is : (file : List ℕ) (header : DbHeader) (seed field : ℕ) → IsHeaderOf (database_in file) header → field ≡ with_seed header.seed seed → record (header_values header) { seed = field } ≡ header_read file seed
+pub header_is : (file : List ℕ) (header : DbHeader) (seed field : ℕ)
+    → IsHeaderOf (database_in file) header → field ≡ with_seed header.seed seed
+    → record (header_values header) { seed = field } ≡ header_read file seed
 unfolding seeded
 header_is file header seed field has is =
     ap (λ (s : ℕ). seeded (header_values header) s) is

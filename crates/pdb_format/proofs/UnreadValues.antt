@@ -18,5 +18,6 @@ none_val = vstruct vnil
 abbrev pub none_own : List Val → Fml
 none_own = no_fields.own_val tt
 
-pub none_made : {M : Type 1} {𝓤 : Ura M} (𝓛 : Logic 𝓤) → ent 𝓤 (emp 𝓤) (sem 𝓛 (none_own (none_val ∷ [])))
+pub none_made : {M : Type 1} {𝓤 : Ura M} (𝓛 : Logic 𝓤)
+    → ent 𝓤 (emp 𝓤) (sem 𝓛 (none_own (none_val ∷ [])))
 none_made 𝓛 = makes_shadow 𝓛 (none_own (none_val ∷ [])) (λ _. (tt, tt)) (tt, (refl, tt))

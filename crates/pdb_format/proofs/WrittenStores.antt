@@ -24,34 +24,45 @@ use Rattle.pdb_format.proofs.NamedSizes.{named_length, database_once}
 
 named_some : (chunks : ChunkMap) (name : ℕ) → 0 < name → bytes_named chunks name ≡ None → ⊥
 named_some chunks zero low e = omega arith
-named_some chunks (suc name) low e = none_some (Some (bytes_of (chunks (suc name)))) (bytes_of (chunks (suc name))) e refl
+named_some chunks (suc name) low e =
+    none_some (Some (bytes_of (chunks (suc name)))) (bytes_of (chunks (suc name))) e refl
 
-entry_writable : (image : List ℕ) (r : Bool) (e : Entry ℕ) → HeapAccepted image → EntryFits r e → HasData image e → IsWritableEntry r (entry_with (bytes_named (callers_map image)) e)
+entry_writable : (image : List ℕ) (r : Bool) (e : Entry ℕ) → HeapAccepted image → EntryFits r e
+    → HasData image e → IsWritableEntry r (entry_with (bytes_named (callers_map image)) e)
 entry_writable image false (a_record attributes id slot) heap fits has = (
   fits.0,
   fits.1,
   λ none. elim has [
     | inl dead ↦ dead.1
-    | inr owned ↦ absurd (named_some (callers_map image) slot (owned_some image slot 15 heap owned (omega arith)) none)
+    | inr owned ↦
+        absurd (named_some (callers_map image) slot
+        (owned_some image slot 15 heap owned (omega arith)) none)
   ],
 )
 entry_writable image true (a_record attributes id slot) heap fits has = absurd fits
 entry_writable image false (a_resource kind id slot) heap fits has = absurd fits
-entry_writable image true (a_resource kind id slot) heap fits has = (fits.0, fits.1, named_some (callers_map image) slot (owned_some image slot 15 heap has (omega arith)))
+entry_writable image true (a_resource kind id slot) heap fits has =
+    (fits.0, fits.1, named_some (callers_map image) slot (owned_some image slot 15 heap has (omega arith)))
 
-ids_with : {Data Other : Type 0} (change : Data → Other) (es : List (Entry Data)) → filter_map unique_id (map (entry_with change) es) ≡ filter_map unique_id es
+ids_with : {Data Other : Type 0} (change : Data → Other) (es : List (Entry Data))
+    → filter_map unique_id (map (entry_with change) es) ≡ filter_map unique_id es
 ids_with change [] = refl
-ids_with change (a_record attributes id slot ∷ es) = ap (λ (xs : List ℕ). id ∷ xs) (ids_with change es)
+ids_with change (a_record attributes id slot ∷ es) =
+    ap (λ (xs : List ℕ). id ∷ xs) (ids_with change es)
 ids_with change (a_resource kind id slot ∷ es) = ids_with change es
 
-data_with : {Data Other : Type 0} (change : Data → Other) (es : List (Entry Data)) → map entry_data (map (entry_with change) es) ≡ map change (map entry_data es)
+data_with : {Data Other : Type 0} (change : Data → Other) (es : List (Entry Data))
+    → map entry_data (map (entry_with change) es) ≡ map change (map entry_data es)
 data_with change [] = refl
-data_with {Data} {Other} change (a_record attributes id slot ∷ es) = ap (λ (xs : List Other). change slot ∷ xs) (data_with change es)
-data_with {Data} {Other} change (a_resource kind id slot ∷ es) = ap (λ (xs : List Other). change slot ∷ xs) (data_with change es)
+data_with {Data} {Other} change (a_record attributes id slot ∷ es) =
+    ap (λ (xs : List Other). change slot ∷ xs) (data_with change es)
+data_with {Data} {Other} change (a_resource kind id slot ∷ es) =
+    ap (λ (xs : List Other). change slot ∷ xs) (data_with change es)
 
 -- ---- blocks
 
-unless_bytes : (b : Bool) (live : LiveChunk) → AreBytes live.bytes → AreBytes (bytes_of (cond b None (Some live)))
+unless_bytes : (b : Bool) (live : LiveChunk) → AreBytes live.bytes
+    → AreBytes (bytes_of (cond b None (Some live)))
 unless_bytes true live bytes = λ k. omega arith
 unless_bytes false live bytes = bytes
 
@@ -59,58 +70,77 @@ callers_bytes : (o : Option LiveChunk) → AreBytes (bytes_of o) → AreBytes (b
 callers_bytes None bytes = λ k. omega arith
 callers_bytes (Some live) bytes = unless_bytes (live.owner == 0) live bytes
 
-there_bytes : (image : List ℕ) (name : ℕ) → HeapAccepted image → AreBytes image → AreBytes (bytes_of (held image name))
+there_bytes : (image : List ℕ) (name : ℕ) → HeapAccepted image → AreBytes image
+    → AreBytes (bytes_of (held image name))
 unfolding bytes_under
 there_bytes image name heap bytes = held_bytes image name heap bytes
 
-block_is_bytes : (image : List ℕ) (name : ℕ) → HeapAccepted image → AreBytes image → AreBytes (block_bytes (bytes_named (callers_map image) name))
+block_is_bytes : (image : List ℕ) (name : ℕ) → HeapAccepted image → AreBytes image
+    → AreBytes (block_bytes (bytes_named (callers_map image) name))
 block_is_bytes image zero heap bytes = λ k. omega arith
-block_is_bytes image (suc name) heap bytes = callers_bytes (held image (suc name)) (there_bytes image (suc name) heap bytes)
+block_is_bytes image (suc name) heap bytes =
+    callers_bytes (held image (suc name)) (there_bytes image (suc name) heap bytes)
 
 -- what a block is, of bytes
 abbrev HasBytes : Option (List ℕ) → Type 0
 HasBytes block = AreBytes (block_bytes block)
 
-content_bytes : (image : List ℕ) (d : Database ℕ) → HeapAccepted image → AreBytes image → All HasBytes (data_in (content (callers_map image) d))
+content_bytes : (image : List ℕ) (d : Database ℕ) → HeapAccepted image → AreBytes image
+    → All HasBytes (data_in (content (callers_map image) d))
 content_bytes image d heap bytes =
     let named : ℕ → Option (List ℕ) = bytes_named (callers_map image) in
     let es : List (Entry ℕ) = d.entries in
     let rest : All HasBytes (map entry_data (map (entry_with named) es)) =
-    subst (λ (blocks : List (Option (List ℕ))). All HasBytes blocks) (sym (data_with named es)) (All-map HasBytes named (map entry_data es) (λ k e below. block_is_bytes image (get_or (map entry_data es) k e) heap bytes)) in
-    All-cons HasBytes (named d.app_info) (named d.sort_info ∷ map entry_data (map (entry_with named) es)) (block_is_bytes image d.app_info heap bytes)
-    (All-cons HasBytes (named d.sort_info) (map entry_data (map (entry_with named) es)) (block_is_bytes image d.sort_info heap bytes) rest)
+    subst (λ (blocks : List (Option (List ℕ))). All HasBytes blocks) (sym (data_with named es))
+    (All-map HasBytes named (map entry_data es)
+    (λ k e below. block_is_bytes image (get_or (map entry_data es) k e) heap bytes)) in
+    All-cons HasBytes (named d.app_info)
+    (named d.sort_info ∷ map entry_data (map (entry_with named) es))
+    (block_is_bytes image d.app_info heap bytes)
+    (All-cons HasBytes (named d.sort_info) (map entry_data (map (entry_with named) es))
+    (block_is_bytes image d.sort_info heap bytes) rest)
 
 -- ---- the size of its file
 
-blocks_named : (chunks : ChunkMap) (d : Database ℕ) → data_in (content chunks d) ≡ map (bytes_named chunks) (data_in d)
+blocks_named : (chunks : ChunkMap) (d : Database ℕ)
+    → data_in (content chunks d) ≡ map (bytes_named chunks) (data_in d)
 blocks_named chunks d =
     let named : ℕ → Option (List ℕ) = bytes_named chunks in
-    ap (λ (blocks : List (Option (List ℕ))). named d.app_info ∷ named d.sort_info ∷ blocks) (data_with named d.entries)
+    ap (λ (blocks : List (Option (List ℕ))). named d.app_info ∷ named d.sort_info ∷ blocks)
+    (data_with named d.entries)
 
 front_most : (r : Bool) (count : ℕ) → count < 2 ^ 16 → entry_offset r count + 2 ≤ most_front
 front_most true count few = omega arith
 front_most false count few = omega arith
 
-stored_is : (image : List ℕ) (stored : StoredDatabase) → Accepted image → Contains (databases image) stored → IsDatabase image stored
-stored_is image stored a there = All-contains (IsDatabase image) (databases image) stored a.each there
+stored_is : (image : List ℕ) (stored : StoredDatabase) → Accepted image
+    → Contains (databases image) stored → IsDatabase image stored
+stored_is image stored a there =
+    All-contains (IsDatabase image) (databases image) stored a.each there
 
-pub content_short : (image : List ℕ) (stored : StoredDatabase) → Accepted image → Contains (databases image) stored
-    → (file_size (content (callers_map image) stored.database) ≤ length image + most_front) × (file_size (content (callers_map image) stored.database) < 2 ^ 32)
+pub content_short : (image : List ℕ) (stored : StoredDatabase) → Accepted image
+    → Contains (databases image) stored
+    → (file_size (content (callers_map image) stored.database) ≤ length image + most_front)
+    × (file_size (content (callers_map image) stored.database) < 2 ^ 32)
 content_short image stored a there =
     let d : Database ℕ = stored.database in
     let named : ℕ → Option (List ℕ) = bytes_named (callers_map image) in
     let long = length-map d.entries (entry_with named) in
     let few = (stored_is image stored a there).spelled.fits.entry_count in
-    let front = front_most (has_resources d.header.attributes) (length (map (entry_with named) d.entries)) (omega arith) in
+    let front = front_most (has_resources d.header.attributes)
+    (length (map (entry_with named) d.entries)) (omega arith) in
     let blocks = named_length image (data_in d) a.heap (database_once image stored a there) in
-    let same = ap (λ (bs : List (Option (List ℕ))). length (flat_map block_bytes bs)) (blocks_named (callers_map image) d) in
+    let same = ap (λ (bs : List (Option (List ℕ))). length (flat_map block_bytes bs))
+    (blocks_named (callers_map image) d) in
     let most = (read_heap image a.heap).tiles.head.most in
-    let size : file_size (content (callers_map image) d) ≤ length image + most_front = omega arith in
+    let size : file_size (content (callers_map image) d) ≤ length image + most_front =
+    omega arith in
     (size, omega arith)
 
 -- ---- whether it can be written
 
-pub content_writable : (image : List ℕ) (stored : StoredDatabase) → AreBytes image → Accepted image → Contains (databases image) stored → IsWritable (content (callers_map image) stored.database)
+pub content_writable : (image : List ℕ) (stored : StoredDatabase) → AreBytes image → Accepted image
+    → Contains (databases image) stored → IsWritable (content (callers_map image) stored.database)
 content_writable image stored bytes a there =
     let d : Database ℕ = stored.database in
     let named : ℕ → Option (List ℕ) = bytes_named (callers_map image) in
@@ -122,8 +152,10 @@ content_writable image stored bytes a there =
     record {
       name = fits.name;
       header = fits.header;
-      entries = All-map (IsWritableEntry (has_resources d.header.attributes)) (entry_with named) d.entries
-          (λ k e below. entry_writable image (has_resources d.header.attributes) (get_or d.entries k e) a.heap (fits.entries k e below) (is.entries k e below));
+      entries = All-map (IsWritableEntry (has_resources d.header.attributes))
+          (entry_with named) d.entries
+          (λ k e below. entry_writable image _ _ a.heap (fits.entries k e below)
+          (is.entries k e below));
       entry_count = omega arith;
       none_zero = subst (λ (ids : List ℕ). All (λ id. id ≢ 0) ids) (sym same) is.ids.none_zero;
       distinct = subst (λ (ids : List ℕ). Distinct ids) (sym same) is.ids.distinct;

@@ -1,3 +1,5 @@
+-- `put_unless_next` adds a block to a run: neighbouring blocks, which are not written yet, by the
+-- laws of Runs.
 use Rattle.std.proofs.Common.{◌≡◌, length, refl, sym, subst, rules}
 use Rattle.std.specs.Prelude.{Option}
 use Rattle.pdb_format.specs.Blocks.{IsBlockWithin}
@@ -11,5 +13,8 @@ returns-then-block-run-clause-next g c =
     let inside = subst (IsBlockWithin (length c.args.source.now)) c.in-Some.is c.requires.block in
     let meets : c.in-Some.block.start ≡ c.args.run.end = search rules in
     let next : Block = record { start = c.args.run.start; end = c.in-Some.block.end } in
-    subst (λ (block : Option Block). Continues c.args.source.now g.W.Write.contents c.args.out.now c.args.out.now c.args.run block next) (sym c.in-Some.is)
-    (longer_run g.W.Write.contents c.args.source.now c.args.out.now c.args.run c.in-Some.block next c.requires.run.0 inside.0 meets refl refl)
+    subst (λ (block : Option Block).
+    Continues c.args.source.now g.W.Write.contents c.args.out.now c.args.out.now c.args.run block
+    next) (sym c.in-Some.is)
+    (longer_run g.W.Write.contents c.args.source.now c.args.out.now c.args.run c.in-Some.block next
+    c.requires.run.0 inside.0 meets refl refl)

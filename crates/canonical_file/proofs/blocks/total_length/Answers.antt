@@ -1,3 +1,4 @@
+-- `total_length` returns the size of all blocks together in bytes, by the contracts of its calls.
 use Rattle.std.proofs.Common.{◌<◌, None, length, ap, ◌∙◌, arith, rules}
 use Rattle.std.specs.List.{sum_by}
 use Rattle.std.proofs.lemmas.List.{take_all}
@@ -18,4 +19,6 @@ loop-index-preserved c =
     omega (arith, more, c.loop-index.invariant, c.block_length-total.ensures)
 
 pub returns : goal.returns
-returns c = c.loop-index.invariant ∙ ap (sum_by length_within) (take_all c.loop-index.index c.args.blocks.now (omega arith))
+returns c =
+    c.loop-index.invariant
+    ∙ ap (sum_by length_within) (take_all c.loop-index.index c.args.blocks.now (omega arith))

@@ -1,3 +1,4 @@
+-- The invariant of the loop of `total_length`.
 use Rattle.std.proofs.Common.{◌≡◌, take}
 use Rattle.std.specs.List.{sum_by}
 use Rattle.pdb_format.specs.Blocks.{length_within}

@@ -1,4 +1,6 @@
-use Rattle.std.proofs.Common.{◌≡◌, ℕ, List, length, ap, ◌∙◌, subst}
+-- `changes_by` meets its contract (the same as `find_changes`, for the IDs that the file's records
+-- get), by the laws of Canonicals.
+use Rattle.std.proofs.Common.{◌≡◌, ℕ, List, length, ap, ◌∙◌}
 use Rattle.std.specs.Prelude.{◌↔◌, IsTrue}
 use Rattle.heap_model.specs.Database.{database_in}
 use Rattle.heap_model.specs.Store.{unique_ids}
@@ -9,21 +11,24 @@ use Rattle.canonical_file.proofs.changes.changes_by.Goals as goal
 
 pub keeps_ids-requires : goal.keeps_ids-requires
 keeps_ids-requires g c =
-    ap (λ (xs : List ℕ). length xs) c.deref.ensures.value ∙ ids_long c.args.file.now c.args.given.now.ids.items c.args.given.now.seed c.requires.given
+    ap (λ (xs : List ℕ). length xs) c.deref.ensures.value ∙ ids_long _ _ _ c.requires.given
 
 pub returns-clause-changes : goal.returns-clause-changes
 returns-clause-changes g c =
     let file = c.args.file.now in
     let ids = c.args.given.now.ids.items in
     let seed = c.args.given.now.seed in
-    let kept = subst (λ (xs : List ℕ). IsTrue c.keeps_ids.result ↔ (xs ≡ unique_ids (database_in file))) c.deref.ensures.value c.keeps_ids.ensures in
-    are_changes file ids seed _ c.know_file.ensures.numbers c.requires.short c.know_file.ensures.good c.requires.given (record {
+    let kept = rw c.deref.ensures.value at c.keeps_ids.ensures in
+    are_changes file ids seed _ c.know_file.ensures.numbers c.requires.short
+    c.know_file.ensures.good c.requires.given (record {
       busy = c.has_busy.ensures;
       filler = says_not c.has_filler.result (HasPlainFiller file) c.has_filler.ensures;
-      ids = says_ids file ids seed c.keeps_ids.result c.know_file.ensures.good c.requires.given kept;
+      ids = says_ids file ids seed c.keeps_ids.result c.know_file.ensures.good c.requires.given
+          kept;
       name = says_name file c.has_name.result c.know_file.ensures.good c.has_name.ensures;
       order = says_not c.is_in_order.result (IsInOrder file) c.is_in_order.ensures;
     })
 
 pub returns-clause-same : goal.returns-clause-same
-returns-clause-same g c = same_form c.args.file.now c.args.given.now.ids.items c.args.given.now.seed _ c.know_file.ensures.good c.requires.given (returns-clause-changes g c)
+returns-clause-same g c =
+    same_form _ _ _ _ c.know_file.ensures.good c.requires.given (returns-clause-changes g c)

@@ -1,3 +1,4 @@
+-- `find_changes` returns the changes of a file when it is rewritten, by the contracts of its calls.
 use Rattle.canonical_file.proofs.changes.find_changes.Goals as goal
 
 pub changes_by-requires-clause-given : goal.changes_by-requires-clause-given

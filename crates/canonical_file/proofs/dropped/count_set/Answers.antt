@@ -1,3 +1,4 @@
+-- `count_set` returns how many bytes aren't zero, by the contracts of its calls.
 use Rattle.std.proofs.Common.{◌≤◌, ◌∙◌, length, ap, arith}
 use Rattle.std.specs.Prelude.{count_by}
 use Rattle.std.proofs.lemmas.List.{take_all}

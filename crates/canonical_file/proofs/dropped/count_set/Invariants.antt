@@ -1,3 +1,4 @@
+-- The invariant of the loop of `count_set`.
 use Rattle.std.proofs.Common.{◌≡◌, ◌≤◌, take}
 use Rattle.std.specs.Prelude.{count_by}
 use Rattle.canonical_file.specs.Dropped.{is_set}

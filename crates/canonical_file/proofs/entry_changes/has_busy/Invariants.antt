@@ -1,3 +1,4 @@
+-- The invariant of the loop of `has_busy`.
 use Rattle.std.proofs.Common.{ℕ, ◌<◌}
 use Rattle.heap_model.specs.Database.{entry_in}
 use Rattle.canonical_file.specs.Changes.{IsIdle}

@@ -1,3 +1,5 @@
+-- `keeps_ids` returns whether these IDs, one for each record of a file, are the IDs in the file, by
+-- the laws of GivenLaws.
 use Rattle.std.proofs.Common.{◌≡◌, ℕ, List, length, get_or, refl, sym, ap, subst, ◌∙◌, arith, inl, inr}
 use Rattle.std.proofs.lemmas.Bool.{cases_lt}
 use Rattle.std.proofs.lemmas.List.{ext_get_or, nil_from_length}
@@ -20,14 +22,16 @@ bounds-ids-index g c =
 
 pub returns-then-ids-index : goal.returns-then-ids-index
 returns-then-ids-index g c =
-    let is = id_there c.args.file.now c.loop-index.index c.record_id.result (sym c.has_resources.ensures ∙ c.if-has_resources.false) (omega arith) c.record_id.ensures.is in
+    let is = id_there c.args.file.now c.loop-index.index _
+    (sym c.has_resources.ensures ∙ c.if-has_resources.false) (omega arith) c.record_id.ensures.is in
     (λ yes. absurd cc, λ same. absurd (c.if-ids-index.true (ap (λ (xs : List ℕ). get_or xs c.loop-index.index 0) same ∙ is)))
 
 pub loop-index-preserved : goal.loop-index-preserved
 loop-index-preserved g c = λ k below.
     let ids : List ℕ = c.args.ids.now in
     let known : List ℕ = unique_ids (database_in c.args.file.now) in
-    let is = id_there c.args.file.now c.loop-index.index c.record_id.result (sym c.has_resources.ensures ∙ c.if-has_resources.false) (omega arith) c.record_id.ensures.is in
+    let is = id_there c.args.file.now c.loop-index.index _
+    (sym c.has_resources.ensures ∙ c.if-has_resources.false) (omega arith) c.record_id.ensures.is in
     elim (cases_lt k c.loop-index.index) [
       | inl less ↦ c.loop-index.invariant k less
       | inr past ↦

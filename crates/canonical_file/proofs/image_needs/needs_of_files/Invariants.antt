@@ -1,3 +1,4 @@
+-- The invariant of the loop of `needs_of_files`.
 use Rattle.std.proofs.Common.{◌≡◌, take}
 use Rattle.std.specs.Prelude.{min}
 use Rattle.std.specs.List.{sum_by}

@@ -1,3 +1,4 @@
+-- `mended_start` meets its contract, by the laws of MendedFiles and MendedStarts.
 use Rattle.std.proofs.Common.{◌≤◌, refl, arith}
 use Rattle.std.proofs.lemmas.Grind.{common_steps}
 use Rattle.canonical_file.specs.Salvage.{sound_in}
@@ -49,5 +50,9 @@ returns-clause-is g c =
     let head = c.append.ensures.len in
     let entries = c.append_sound_entries.ensures.len in
     let less : c.len-at.result ≤ c.min-size.result = omega arith in
-    start_parts c.args.file.now c.in_ok-start.start.items c.append.new.bytes.items c.append_sound_entries.new.bytes.items c.append-2.new.bytes.items c.to_bytes.result _ c.len-at.result c.min-size.result c.in_ok-start.ensures.none c.append.ensures.items
-    (c.to_bytes.ensures.is (sound_in c.args.file.now) c.sound_header.ensures) c.append_sound_entries.ensures.items c.append-2.ensures.items (grind (arith, common_steps)) refl less c.min-size.ensures
+    start_parts c.args.file.now c.in_ok-start.start.items c.append.new.bytes.items
+    c.append_sound_entries.new.bytes.items c.append-2.new.bytes.items c.to_bytes.result _
+    c.len-at.result c.min-size.result c.in_ok-start.ensures.none c.append.ensures.items
+    (c.to_bytes.ensures.is (sound_in c.args.file.now) c.sound_header.ensures)
+    c.append_sound_entries.ensures.items c.append-2.ensures.items (grind (arith, common_steps)) refl
+    less c.min-size.ensures

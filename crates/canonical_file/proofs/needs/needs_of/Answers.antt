@@ -1,3 +1,4 @@
+-- `needs_of` returns the needs of the database of a file, by the laws of FileBlocks and Sums.
 use Rattle.std.proofs.Common.{◌+◌, ◌<◌, List, Option, None, length, ap, sym, ◌∙◌, arith}
 use Rattle.std.specs.List.{sum_by}
 use Rattle.std.proofs.lemmas.List.{take_all}
@@ -13,13 +14,16 @@ use Rattle.canonical_file.proofs.needs.needs_of.Goals as goal
 
 pub bounds-blocks-rank : goal.bounds-blocks-rank
 bounds-blocks-rank g c =
-    let long = length-blocks c.args.file.now c.blocks-blocks.result.now c.blocks-blocks.ensures.places.are in
+    let long = length-blocks c.args.file.now c.blocks-blocks.result.now
+    c.blocks-blocks.ensures.places.are in
     omega (arith, long, c.rank_count-rank-end.ensures.is)
 
 pub overflow_add-bytes : goal.overflow_add-bytes
 overflow_add-bytes g c =
-    let long = length-blocks c.args.file.now c.blocks-blocks.result.now c.blocks-blocks.ensures.places.are in
-    let inside : c.loop-rank.rank < length c.blocks-blocks.result.now = omega (arith, long, c.rank_count-rank-end.ensures.is) in
+    let long = length-blocks c.args.file.now c.blocks-blocks.result.now
+    c.blocks-blocks.ensures.places.are in
+    let inside : c.loop-rank.rank < length c.blocks-blocks.result.now =
+    omega (arith, long, c.rank_count-rank-end.ensures.is) in
     let most = sum_by_more_le block_need c.blocks-blocks.result.now c.loop-rank.rank None inside in
     let all = needs_at_most c.blocks-blocks.result.now in
     let end = end_at_most (resources_in c.args.file.now) (entry_count_in c.args.file.now) in
@@ -27,8 +31,10 @@ overflow_add-bytes g c =
 
 pub overflow_add-slots : goal.overflow_add-slots
 overflow_add-slots g c =
-    let long = length-blocks c.args.file.now c.blocks-blocks.result.now c.blocks-blocks.ensures.places.are in
-    let inside : c.loop-rank.rank < length c.blocks-blocks.result.now = omega (arith, long, c.rank_count-rank-end.ensures.is) in
+    let long = length-blocks c.args.file.now c.blocks-blocks.result.now
+    c.blocks-blocks.ensures.places.are in
+    let inside : c.loop-rank.rank < length c.blocks-blocks.result.now =
+    omega (arith, long, c.rank_count-rank-end.ensures.is) in
     let most = sum_by_more_le block_slots c.blocks-blocks.result.now c.loop-rank.rank None inside in
     let all = slots_at_most c.blocks-blocks.result.now in
     omega (arith, most, all, long, c.rank_count-rank-end.ensures.is, c.rank_count-rank-end.ensures.most, c.loop-rank.invariant.slots, c.needs_of_block-needs.ensures.slots)
@@ -38,10 +44,17 @@ returns-clause-are g c =
     let file = c.args.file.now in
     let blocks = c.blocks-blocks.result.now in
     let long = length-blocks file blocks c.blocks-blocks.ensures.places.are in
-    let all = take_all c.loop-rank.rank blocks (omega (arith, long, c.rank_count-rank-end.ensures.is)) in
+    let all = take_all c.loop-rank.rank blocks
+    (omega (arith, long, c.rank_count-rank-end.ensures.is)) in
     record {
-      bytes = c.loop-rank.invariant.bytes ∙ ap (λ (bs : List (Option Block)). need (entries_end file) + sum_by block_need bs) all ∙ sym (bytes_are file blocks c.blocks-blocks.ensures.places.are c.blocks-blocks.ensures.places.within);
-      slots = c.loop-rank.invariant.slots ∙ ap (λ (bs : List (Option Block)). 1 + sum_by block_slots bs) all ∙ sym (slots_are file blocks c.blocks-blocks.ensures.places.are c.blocks-blocks.ensures.places.within);
+      bytes = c.loop-rank.invariant.bytes
+          ∙ ap (λ (bs : List (Option Block)). need (entries_end file) + sum_by block_need bs) all
+          ∙ sym (bytes_are file blocks c.blocks-blocks.ensures.places.are
+          c.blocks-blocks.ensures.places.within);
+      slots = c.loop-rank.invariant.slots
+          ∙ ap (λ (bs : List (Option Block)). 1 + sum_by block_slots bs) all
+          ∙ sym (slots_are file blocks c.blocks-blocks.ensures.places.are
+          c.blocks-blocks.ensures.places.within);
     }
 
 pub returns-clause-short : goal.returns-clause-short

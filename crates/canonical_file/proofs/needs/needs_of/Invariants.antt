@@ -1,3 +1,4 @@
+-- The invariant of the loop of `needs_of`.
 use Rattle.std.proofs.Common.{◌≡◌, ◌+◌, take}
 use Rattle.std.specs.List.{sum_by}
 use Rattle.heap_model.specs.Chunk.{need}

@@ -1,3 +1,4 @@
+-- `entry_with_id` meets its contract, by the laws of OwnIds.
 use Rattle.std.proofs.Common.{◌∙◌, ℕ, List, sym, ap}
 use Rattle.heap_model.specs.Database.{entry_with}
 use Rattle.pdb_format.specs.ReadFiles.{entry_read_at}
@@ -11,4 +12,5 @@ returns-in-Own-clause-is g c =
     let file = c.args.file.now in
     c.idle_entry_at.ensures.is
     ∙ own_read file c.args.index c.args.at _ c.entry.ensures.is c.requires.inside
-    ∙ ap (λ (ids : List ℕ). entry_with (λ _. c.args.at) (entry_read_at file ids c.args.index)) (ap (ids_of file) (sym c.in-Own.is))
+    ∙ ap (λ (ids : List ℕ). entry_with (λ _. c.args.at) (entry_read_at file ids c.args.index))
+    (ap (ids_of file) (sym c.in-Own.is))

@@ -1,9 +1,10 @@
+-- `put_distinct` writes the canonical form of a file, by the laws of FileIds.
 use Rattle.pdb_format.proofs.FileIds.{ids_for}
 use Rattle.canonical_file.proofs.salvage.put_distinct.Goals as goal
 
 pub put_canonical_from-requires-clause-ids : goal.put_canonical_from-requires-clause-ids
 put_canonical_from-requires-clause-ids g c = record {
   have = c.in-Ok.ensures.given;
-  fit = ids_for c.args.file.now c.in-Ok.given.ids.items _ _ c.in-Ok.ensures.given c.in-Ok.ensures.fit;
+  fit = ids_for c.args.file.now _ _ _ c.in-Ok.ensures.given c.in-Ok.ensures.fit;
   seed = c.in-Ok.ensures.seed;
 }

@@ -1,3 +1,4 @@
+-- The invariant of the loop of `put_salvaged`.
 use Rattle.std.proofs.Common.{length, drop}
 use Rattle.canonical_file.proofs.salvage.put_salvaged.Given as goal
 

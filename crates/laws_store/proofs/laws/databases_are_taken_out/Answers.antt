@@ -1,6 +1,7 @@
+-- The numbers are distinct, so the removal by number is the removal at the index.
 use Rattle.std.proofs.Common.{ap, ◌∙◌}
 use Rattle.std.proofs.lemmas.Option.{slice_get_within, get_or_from_slice_get}
-use Rattle.heap_model.specs.Store.{StoredDatabase, numbers_of}
+use Rattle.heap_model.specs.Store.{numbers_of}
 use Rattle.laws_store.proofs.Times.{distinct-times}
 use Rattle.laws_store.proofs.Found.{without_by_number}
 use Rattle.laws_store.proofs.laws.databases_are_taken_out.Goals as goal
@@ -8,4 +9,5 @@ use Rattle.laws_store.proofs.laws.databases_are_taken_out.Goals as goal
 pub returns : goal.returns
 returns c stored db index one distinct at number =
     let here = get_or_from_slice_get stored index one one at in
-    without_by_number db stored index one (distinct-times (numbers_of stored) distinct db) (slice_get_within stored index one at) (ap (λ (s : StoredDatabase). s.db) here ∙ number)
+    without_by_number db stored index one (distinct-times (numbers_of stored) distinct db)
+    (slice_get_within stored index one at) (ap (λ s. s.db) here ∙ number)

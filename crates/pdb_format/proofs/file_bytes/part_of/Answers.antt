@@ -1,3 +1,4 @@
+-- `part_of` returns at most `MOST_APP` bytes from an offset on, by the laws of StartLaws.
 use Rattle.pdb_format.specs.FileStarts.{most_app}
 use Rattle.pdb_format.proofs.StartLaws.{part_taken}
 use Rattle.pdb_format.proofs.file_bytes.part_of.Goals as goal

@@ -1,3 +1,4 @@
+-- `after_entries` returns the two bytes after the entries, by the laws of StartLaws.
 use Rattle.std.proofs.Common.{◌+◌, arith, rules}
 use Rattle.heap_model.specs.Files.{entries_end}
 use Rattle.pdb_format.proofs.StartLaws.{ends_within}
@@ -6,11 +7,13 @@ use Rattle.pdb_format.proofs.filler.after_entries.Goals as goal
 pub overflow_add-result : goal.overflow_add-result
 overflow_add-result g c =
     let file = g.B.FileBytes.bytes c.args.file.now in
-    let within = ends_within file c.start-start.result.now c.start-start.ensures (entries_end file + 2) (omega arith) c.requires.whole in
+    let within = ends_within file _ c.start-start.ensures (entries_end file + 2)
+    (omega arith) c.requires.whole in
     search rules
 
 pub slice_bounds-result-end : goal.slice_bounds-result-end
 slice_bounds-result-end g c =
     let file = g.B.FileBytes.bytes c.args.file.now in
-    let within = ends_within file c.start-start.result.now c.start-start.ensures (entries_end file + 2) (omega arith) c.requires.whole in
+    let within = ends_within file _ c.start-start.ensures (entries_end file + 2)
+    (omega arith) c.requires.whole in
     search rules

@@ -1,3 +1,5 @@
+-- `rank_count` returns the number of blocks that a file may have: its info blocks, and one for each
+-- entry, by the laws of GoodFiles.
 use Rattle.std.proofs.Common.{arith}
 use Rattle.pdb_format.proofs.GoodFiles.{offset_count}
 use Rattle.pdb_format.proofs.starts.rank_count.Goals as goal

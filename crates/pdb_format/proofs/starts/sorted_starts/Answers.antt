@@ -1,7 +1,11 @@
+-- `sorted_starts` returns the starts of the blocks that the file has, in the order of the blocks in
+-- the file.
 use Rattle.std.proofs.Common.{rules}
 use Rattle.std.proofs.lemmas.List.Sorted.{IsNonDecreasingBy-from_sort_by_key}
 use Rattle.pdb_format.specs.Starts.{order}
 use Rattle.pdb_format.proofs.starts.sorted_starts.Goals as goal
 
 pub returns-clause-rising : goal.returns-clause-rising
-returns-clause-rising g c = IsNonDecreasingBy-from_sort_by_key order _ c.sort_unstable_by_key.ensures.sorted (λ a r q k. search rules)
+returns-clause-rising g c =
+    IsNonDecreasingBy-from_sort_by_key order _ c.sort_unstable_by_key.ensures.sorted
+    (λ a r q k. search rules)

@@ -1,3 +1,5 @@
+-- `starts_of` returns the starts of the blocks that the file has, by rank, by the laws of
+-- SortedStarts.
 use Rattle.std.proofs.Common.{◌≡◌, ℕ, ◌+◌, ◌<◌, ◌++◌, [], ◌∷◌, List, length, ap, ◌∙◌, rules}
 use Rattle.std.specs.Prelude.{slice_index}
 use Rattle.heap_model.specs.Files.{offsets_in}
@@ -7,19 +9,30 @@ use Rattle.pdb_format.proofs.starts.starts_of.Goals as goal
 use Rattle.pdb_format.proofs.starts.starts_of.Goals.{then-at-ne0+in_ok-push, else-at-ne0}
 
 -- a start is put after those of the first ranks
-pushed : (offsets : List ℕ) (rank at : ℕ) (old mid new : List Start) → new ≡ mid → mid ≡ old ++ record { at = at; rank = rank } ∷ [] → old ≡ first_starts offsets rank → at ≡ slice_index offsets rank → 0 < at → new ≡ first_starts offsets (rank + 1)
-pushed offsets rank at old mid new new_is mid_is before is some = new_is ∙ mid_is ∙ ap (λ (xs : List Start). xs ++ record { at = at; rank = rank } ∷ []) before ∙ one_more offsets rank at is some
+pushed : (offsets : List ℕ) (rank at : ℕ) (old mid new : List Start) → new ≡ mid
+    → mid ≡ old ++ record { at = at; rank = rank } ∷ [] → old ≡ first_starts offsets rank
+    → at ≡ slice_index offsets rank → 0 < at → new ≡ first_starts offsets (rank + 1)
+pushed offsets rank at old mid new new_is mid_is before is some =
+    new_is ∙ mid_is ∙ ap (λ (xs : List Start). xs ++ record { at = at; rank = rank } ∷ []) before
+    ∙ one_more offsets rank at is some
 
 pub loop-rank-preserved : goal.loop-rank-preserved
 loop-rank-preserved g c =
     let offsets : List ℕ = offsets_in (g.B.FileBytes.bytes c.args.file.now) in
     elim c.if-at-ne0.branch [
-      | then-at-ne0+in_ok-push w ↦ pushed offsets c.loop-rank.rank c.offset_of-at.result _ _ _ (ap (λ v. v.items) w.starts-is) w.in_ok-push.ensures.items c.loop-rank.invariant c.offset_of-at.ensures (search rules)
-      | else-at-ne0 w ↦ ap (λ v. v.items) w.starts-is ∙ c.loop-rank.invariant ∙ none_more offsets c.loop-rank.rank c.offset_of-at.result c.offset_of-at.ensures (search rules)
+      | then-at-ne0+in_ok-push w ↦
+          pushed offsets c.loop-rank.rank c.offset_of-at.result _ _ _
+          (ap (λ v. v.items) w.starts-is) w.in_ok-push.ensures.items c.loop-rank.invariant
+          c.offset_of-at.ensures (search rules)
+      | else-at-ne0 w ↦
+          ap (λ v. v.items) w.starts-is ∙ c.loop-rank.invariant
+          ∙ none_more offsets c.loop-rank.rank c.offset_of-at.result c.offset_of-at.ensures
+          (search rules)
     ]
 
 pub returns-clause-starts : goal.returns-clause-starts
 returns-clause-starts g c =
     let ends = c.rank_count-rank-end.ensures.is in
-    let all : c.loop-rank.rank ≡ length (offsets_in (g.B.FileBytes.bytes c.args.file.now)) = search rules in
+    let all : c.loop-rank.rank ≡ length (offsets_in (g.B.FileBytes.bytes c.args.file.now)) =
+    search rules in
     c.loop-rank.invariant ∙ ap (first_starts (offsets_in (g.B.FileBytes.bytes c.args.file.now))) all

@@ -1,3 +1,4 @@
+-- The invariant of the loop of `of`.
 use Rattle.pdb_format.proofs.file_bytes.FileStart.of.Given as goal
 
 abbrev pub ghost-name_unread : goal.ghost-name_unread

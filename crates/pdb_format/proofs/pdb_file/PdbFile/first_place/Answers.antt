@@ -1,3 +1,5 @@
+-- `first_place` returns the offset of the first block when the file is written again, by the laws
+-- of GoodFiles.
 use Rattle.std.proofs.Common.{◌≡◌, Bool, ap, ◌∙◌, arith}
 use Rattle.heap_model.specs.Database.{resources_in}
 use Rattle.pdb_format.specs.Filler.{first_place_after, first_place}
@@ -9,6 +11,7 @@ returns-clause-most g c =
     let end = (not_truncated c.args.self.now c.know_file.ensures.good).1 in
     let is : c.first_place_after.result ≡ first_place c.args.self.now =
     c.first_place_after.ensures
-    ∙ ap (λ (resources : Bool). first_place_after resources c.entry_count.result) c.has_resources.ensures
+    ∙ ap (λ (resources : Bool). first_place_after resources c.entry_count.result)
+    c.has_resources.ensures
     ∙ ap (first_place_after (resources_in c.args.self.now)) c.entry_count.ensures in
     omega (arith, end, is)

@@ -1,4 +1,5 @@
-use Rattle.std.proofs.Common.{◌≡◌, ℕ, List, subst}
+-- `header` returns the header, by the laws of FileNames and ReadHeaders.
+use Rattle.std.proofs.Common.{◌≡◌, ℕ, List}
 use Rattle.heap_model.specs.Database.{header_in}
 use Rattle.db_format.specs.Headers.{header_values}
 use Rattle.pdb_format.proofs.FileNames.{file_named}
@@ -6,7 +7,8 @@ use Rattle.pdb_format.proofs.ReadHeaders.{values_are}
 use Rattle.pdb_format.proofs.pdb_file.PdbFile.header.Goals as goal
 
 pub header-requires-clause-name : goal.header-requires-clause-name
-header-requires-clause-name g c = file_named (g.B.FileBytes.bytes c.self.inside.bytes) c.self.invariant.good
+header-requires-clause-name g c = file_named _ c.self.invariant.good
 
 pub returns-clause-values : goal.returns-clause-values
-returns-clause-values g c = subst (λ (file : List ℕ). header_values c.header.result ≡ header_in file) c.self.view_is (values_are (g.B.FileBytes.bytes c.self.inside.bytes) c.header.result c.header.ensures)
+returns-clause-values g c =
+    rw c.self.view_is at (values_are (g.B.FileBytes.bytes c.self.inside.bytes) _ c.header.ensures)

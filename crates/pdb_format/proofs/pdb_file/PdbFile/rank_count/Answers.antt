@@ -1,3 +1,5 @@
+-- `rank_count` returns the number of ranks: two for the info blocks, and one for each entry, by the
+-- laws of FileBlocks and GoodFiles.
 use Rattle.std.proofs.Common.{arith}
 use Rattle.pdb_format.proofs.FileBlocks.{block_count}
 use Rattle.pdb_format.proofs.GoodFiles.{offset_count}
