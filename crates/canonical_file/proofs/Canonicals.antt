@@ -15,7 +15,7 @@ use Rattle.pdb_format.specs.Opened.{most_file_bytes}
 use Rattle.canonical_file.specs.Canonical.{GetsIds, IsCanonical, WritesCanonical, WritesOne, WroteCanonical, WroteOne}
 use Rattle.canonical_file.specs.declared.canonical.CanonicalFault.{CanonicalFault}
 use Rattle.canonical_file.specs.declared.changes.Changes.{Changes}
-use Rattle.canonical_file.specs.Changes.{NoneIsBusy, HasPlainFiller, KeepsIds, HasPlainName, IsInOrder, Says, is_none, AreChanges}
+use Rattle.canonical_file.specs.Changes.{NoneIsBusy, HasPlainFiller, KeepsIds, HasPlainName, IsInOrder, IsSetUnless, is_none, AreChanges}
 use Rattle.canonical_file.specs.Given.{AreGivenIn}
 use Rattle.canonical_file.proofs.Kept.{Known, file_stays, all_kept}
 use Rattle.canonical_file.proofs.Given.{known_of, says_not}
@@ -71,11 +71,11 @@ said_none changes none =
 
 -- what the tests of a file say
 pub record AreTested (file : List ℕ) (changes : Changes) : Type 0 where
-  pub busy : Says changes.busy (NoneIsBusy file)
-  pub filler : Says changes.filler (HasPlainFiller file)
-  pub ids : Says changes.ids (KeepsIds file)
-  pub name : Says changes.name (HasPlainName file)
-  pub order : Says changes.order (IsInOrder file)
+  pub busy : IsSetUnless changes.busy (NoneIsBusy file)
+  pub filler : IsSetUnless changes.filler (HasPlainFiller file)
+  pub ids : IsSetUnless changes.ids (KeepsIds file)
+  pub name : IsSetUnless changes.name (HasPlainName file)
+  pub order : IsSetUnless changes.order (IsInOrder file)
 
 stays : (file : List ℕ) (d : Database (Option (List ℕ))) (changes : Changes) → Known file d
     → AreTested file changes → (IsTrue (is_none changes) ↔ (file_of d ≡ file))
@@ -174,7 +174,7 @@ cut_canonical file given contents old new good gets wrote =
 -- ---- the name
 
 pub says_name : (file : List ℕ) (b : Bool) → HasNoFault file → (IsTrue b ↔ HasName file)
-    → Says (not b) (HasPlainName file)
+    → IsSetUnless (not b) (HasPlainName file)
 says_name file b good is =
     says_not b (HasPlainName file)
     (λ e. (is.0 e).field, λ plain. is.1 (record { name = file_named file good; field = plain }))

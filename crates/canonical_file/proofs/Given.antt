@@ -12,7 +12,7 @@ use Rattle.pdb_format.proofs.FileIds.{given_long}
 use Rattle.pdb_format.proofs.ReadFiles.{blocks_read_are, reads}
 use Rattle.pdb_format.proofs.ReadIds.{given_same}
 use Rattle.pdb_format.specs.Opened.{most_file_bytes}
-use Rattle.canonical_file.specs.Changes.{KeepsIds, Says}
+use Rattle.canonical_file.specs.Changes.{KeepsIds, IsSetUnless}
 use Rattle.canonical_file.specs.Given.{AreGivenIn}
 use Rattle.pdb_format.proofs.WrittenOffsets.{all_bytes}
 use Rattle.canonical_file.proofs.Kept.{Known}
@@ -56,7 +56,7 @@ not_said_if : (b : Bool) → IsTrue b → IsFalse (not b)
 not_said_if true e = refl
 not_said_if false e = absurd cc
 
-pub says_not : (b : Bool) (P : Type 0) → (IsTrue b ↔ P) → Says (not b) P
+pub says_not : (b : Bool) (P : Type 0) → (IsTrue b ↔ P) → IsSetUnless (not b) P
 says_not b P is = (λ e. is.0 (not_said b e), λ p. not_said_if b (is.1 p))
 
 -- they are the file's exactly if each record keeps its own
@@ -71,7 +71,7 @@ ids_kept file ids seed good given = (
 
 pub says_ids : (file ids : List ℕ) (seed : ℕ) (b : Bool) → HasNoFault file
     → AreGivenIn file ids seed → (IsTrue b ↔ (ids ≡ unique_ids (database_in file)))
-    → Says (not b) (KeepsIds file)
+    → IsSetUnless (not b) (KeepsIds file)
 says_ids file ids seed b good given is =
     let both = ids_kept file ids seed good given in
     says_not b (KeepsIds file) (λ e. both.0 (is.0 e), λ keeps. is.1 (both.1 keeps))

@@ -48,8 +48,8 @@ IsInOrder file = AreRising 0 (offsets_in file)
 -- ---- what changes
 
 -- a word is set exactly if the file doesn't have its property
-abbrev pub Says : Bool → Type 0 → Type 0
-Says word Kept = IsFalse word ↔ Kept
+abbrev pub IsSetUnless : Bool → Type 0 → Type 0
+IsSetUnless word Kept = IsFalse word ↔ Kept
 
 -- no word is set
 abbrev pub is_none : Changes → Bool
@@ -57,11 +57,11 @@ is_none changes = not (changes.busy || (changes.filler || (changes.ids || (chang
 
 -- These are the changes of a file. The file is its canonical form exactly if no word is set.
 pub record AreChanges (file : List ℕ) (changes : Changes) : Type 0 where
-  pub busy : Says changes.busy (NoneIsBusy file)
-  pub filler : Says changes.filler (HasPlainFiller file)
-  pub ids : Says changes.ids (KeepsIds file)
-  pub name : Says changes.name (HasPlainName file)
-  pub order : Says changes.order (IsInOrder file)
+  pub busy : IsSetUnless changes.busy (NoneIsBusy file)
+  pub filler : IsSetUnless changes.filler (HasPlainFiller file)
+  pub ids : IsSetUnless changes.ids (KeepsIds file)
+  pub name : IsSetUnless changes.name (HasPlainName file)
+  pub order : IsSetUnless changes.order (IsInOrder file)
   pub canonical : (bytes : List ℕ) → IsCanonical file bytes → (IsTrue (is_none changes) ↔ (bytes ≡ file))
 
 -- ---- how it is printed

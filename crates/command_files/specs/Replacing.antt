@@ -6,10 +6,10 @@ use Rattle.hints.specs.Lookalikes.{looks_like_database, looks_like_image}
 use Rattle.command_files.specs.declared.replacing.OutputKind.{OutputKind}
 use Rattle.command_files.specs.declared.replacing.OutputKind.TheVariants.{Image, Database}
 
--- a file that begins so stays where a file of this kind is written: it looks like one of the other kind
-abbrev pub stays : OutputKind → List ℕ → Bool
-stays Image head = looks_like_database head
-stays Database head = looks_like_image head
+-- A file that begins so is not replaced by a file of this kind: it looks like one of the other kind.
+abbrev pub looks_like_other : OutputKind → List ℕ → Bool
+looks_like_other Image head = looks_like_database head
+looks_like_other Database head = looks_like_image head
 
 -- the number of its first bytes that show this
 abbrev pub head_size : OutputKind → ℕ

@@ -3,7 +3,7 @@
 
 ghost use Rattle.std.specs.Prelude.{◌≡◌, ◌⊎◌, Err, IfErr, IsTrue, false, length};
 ghost use Rattle.std.specs.Io.KnownBytes.{Consumes};
-ghost use Rattle.command_files.specs.Replacing.{head_size, stays};
+ghost use Rattle.command_files.specs.Replacing.{head_size, looks_like_other};
 
 use crate::faults::fail;
 use hints::{DATABASE_HEADER_SIZE, IMAGE_HEADER_SIZE, looks_like_database, looks_like_image};
@@ -66,8 +66,8 @@ fn output_over<'a, R: Files + Eprint + AllocGlobal>(
     kind: OutputKind,
     head: &[u8],
 ) -> Result<OutputFile<'a, R>, Status>
-    ensures kept { IsTrue (stays kind head.now) → result ≡ Err Status.WriteFault }
-    ensures replaced { stays kind head.now ≡ false
+    ensures kept { IsTrue (looks_like_other kind head.now) → result ≡ Err Status.WriteFault }
+    ensures replaced { looks_like_other kind head.now ≡ false
         → IfErr result (λ status. status ≡ Status.NoMemory) }
 {
     let (stays, why) = match kind {

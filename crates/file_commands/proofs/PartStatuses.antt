@@ -12,7 +12,7 @@ use Rattle.file_parts.specs.declared.packing.PackFault.TheVariants.{BadLine, Too
 use Rattle.file_commands.specs.LineFaults as lines
 use Rattle.program_io.specs.declared.status.Status.{Status}
 use Rattle.program_io.specs.declared.status.Status.TheVariants.{Done, Refused, BadWords, ReadFault, WriteFault, NoMemory}
-use Rattle.file_commands.specs.Ends.{PutsFault, count_line}
+use Rattle.file_commands.specs.Ends.{PutsFault, written_line}
 use Rattle.file_commands.specs.Parts.{NotUnpacked, NotListed, EndsPack}
 
 none_of : (x y z : Status) → (x ≡ y) ⊎ (x ≡ z) → (x ≡ y → ⊥) → (x ≡ z → ⊥) → ⊥
@@ -57,7 +57,7 @@ module _ {V : Type 0} (contents : V → Option (List ℕ)) where
 module _ {W V : Type 0} (file_contents : W → Option (List ℕ)) (contents : V → Option (List ℕ)) where
   -- the line after the whole file
   pub packed : (folder : ListedFolder) (parts : List (List ℕ)) (bytes : List ℕ) (file_old file_new : Writing W) (old new : Writing V) (status : Status) → IsPackedOf folder parts bytes → folder_size folder parts ≤ most_bytes → Puts file_contents file_old file_new bytes true
-      → (status ≡ Done) ⊎ (status ≡ WriteFault) → (status ≡ Done → Puts contents old new (count_line (length bytes)) true) → (status ≡ WriteFault → Puts contents old new (count_line (length bytes)) false)
+      → (status ≡ Done) ⊎ (status ≡ WriteFault) → (status ≡ Done → Puts contents old new (written_line (length bytes)) true) → (status ≡ WriteFault → Puts contents old new (written_line (length bytes)) false)
       → EndsPack folder parts file_contents file_old file_new contents old new status
   packed folder parts bytes file_old file_new old new Done is fits whole either done fails = record { bytes = bytes; packed = is; fits = fits; written = whole; told = done refl }
   packed folder parts bytes file_old file_new old new WriteFault is fits whole either done fails = inr (inl (record { bytes = bytes; packed = is; fits = fits; written = whole; told = fails refl }))

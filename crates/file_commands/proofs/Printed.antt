@@ -12,7 +12,7 @@ use Rattle.file_listing.specs.declared.rows.Row.{Row}
 use Rattle.file_listing.specs.Lines.{heading}
 use Rattle.file_listing.specs.Listing.{WritesListing, fault_row}
 use Rattle.file_commands.specs.declared.faults.Rewritten.{Rewritten}
-use Rattle.file_commands.specs.Ends.{IsChangesText, PutsText, PutsListing, PutsFaultRow, PutsCanonical, PutsPart, WroteWhole, count_line, rewritten_lines}
+use Rattle.file_commands.specs.Ends.{IsChangesText, PutsText, PutsListing, PutsFaultRow, PutsCanonical, PutsPart, WroteWhole, written_line, rewritten_lines}
 
 module _ {V : Type 0} (contents : V → Option (List ℕ)) where
   pub puts_fault : (row_text : Row → List ℕ) (old new : Writing V) (file : List ℕ) (fault : FileFault) (ok : Bool) → IsFirstFault file fault → Puts contents old new (row_text (fault_row file fault)) ok → PutsFaultRow row_text file contents old new ok
@@ -66,5 +66,5 @@ told file_contents contents file_old file_new old new file rewritten ok whole li
   written = whole.written;
   changes = rewritten.changes;
   changes_are = whole.changes;
-  told = subst (λ (n : ℕ). Puts contents old new (count_line n ++ changes_line rewritten.changes) ok) whole.count lines;
+  told = subst (λ (n : ℕ). Puts contents old new (written_line n ++ changes_line rewritten.changes) ok) whole.count lines;
 }

@@ -11,9 +11,9 @@ use Rattle.file_parts.specs.declared.replaced.ReplaceFault.TheVariants.{OutOfMem
 use Rattle.program_io.specs.declared.status.Status.{Status}
 use Rattle.program_io.specs.declared.status.Status.TheVariants.{Done, Refused, BadWords, ReadFault, WriteFault, NoMemory}
 use Rattle.file_commands.specs.declared.put_command.NewBlock.{NewBlock}
-use Rattle.file_commands.specs.Ends.{count_line}
+use Rattle.file_commands.specs.Ends.{written_line}
 use Rattle.file_commands.specs.Gets.{no_block_line}
-use Rattle.file_commands.specs.Puts.{EndsPut, PutsPutFault, fault_line}
+use Rattle.file_commands.specs.Puts.{EndsPut, PutsPutFault, replace_fault_line}
 use Rattle.file_commands.specs.WantedBlocks.{IsWantedRank, LacksBlock}
 
 pub neither : (s x a b : Status) → (s ≡ a) ⊎ (s ≡ b) → s ≡ x → (x ≡ a → ⊥) → (x ≡ b → ⊥) → ⊥
@@ -52,8 +52,8 @@ module _ {W V : Type 0} (file_contents : W → Option (List ℕ)) (contents : V 
 
   -- the file is written
   pub put_whole : (file : List ℕ) (block : NewBlock) (rank : ℕ) (bytes : List ℕ) (file_old file_new : Writing W) (old new : Writing V) (status : Status) → IsWantedRank file block.wanted rank → Replaces file rank block.bytes.now bytes → (status ≡ Done) ⊎ (status ≡ WriteFault)
-      → (status ≡ Done → Puts file_contents file_old file_new bytes true) → (status ≡ Done → Puts contents old new (count_line (length bytes)) true)
-      → (status ≡ WriteFault → (Puts file_contents file_old file_new bytes false × (new ≡ old)) ⊎ (Puts file_contents file_old file_new bytes true × Puts contents old new (count_line (length bytes)) false))
+      → (status ≡ Done → Puts file_contents file_old file_new bytes true) → (status ≡ Done → Puts contents old new (written_line (length bytes)) true)
+      → (status ≡ WriteFault → (Puts file_contents file_old file_new bytes false × (new ≡ old)) ⊎ (Puts file_contents file_old file_new bytes true × Puts contents old new (written_line (length bytes)) false))
       → EndsPut file block (output file_contents file_old file_new) (output contents old new) status
   put_whole file block rank bytes file_old file_new old new status wanted is either written told fails = record {
     done = λ e. record { rank = rank; wanted = wanted; bytes = bytes; replaces = is; written = written e; told = told e };
@@ -68,5 +68,5 @@ module _ {W V : Type 0} (file_contents : W → Option (List ℕ)) (contents : V 
   }
 
 -- the line for a block that isn't replaced
-pub told_fault : {V : Type 0} (contents : V → Option (List ℕ)) (fault one : ReplaceFault) (old new : Writing V) (ok : Bool) → fault ≡ one → (one ≡ OutOfMemory → ⊥) → Puts contents old new (fault_line one) ok → PutsPutFault fault contents old new ok
+pub told_fault : {V : Type 0} (contents : V → Option (List ℕ)) (fault one : ReplaceFault) (old new : Writing V) (ok : Bool) → fault ≡ one → (one ≡ OutOfMemory → ⊥) → Puts contents old new (replace_fault_line one) ok → PutsPutFault fault contents old new ok
 told_fault contents fault one old new ok is other puts = subst (λ (x : ReplaceFault). PutsPutFault x contents old new ok) (sym is) (other, puts)

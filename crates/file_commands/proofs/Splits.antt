@@ -7,7 +7,7 @@ use Rattle.heap_model.specs.Bytes.{AreBytes, u32_at}
 use Rattle.heap_model.specs.DatabaseFields.{app_info_at}
 use Rattle.pdb_format.specs.FileStarts.{app_start, most_app, most_start}
 use Rattle.pdb_format.proofs.WrittenHeads.{u32_front}
-use Rattle.file_commands.specs.Starts.{BeginsWith, IsPart, IsSplit, rest_of, zeros_with}
+use Rattle.file_commands.specs.Starts.{BeginsWith, IsPartOfFile, IsSplit, rest_of, zeros_with}
 
 -- ---- bytes
 
@@ -129,7 +129,7 @@ after_zeros start app size at is header after long count =
     ]
 
 after_by : (file : Option (List ℕ)) (start app : List ℕ) (size : ℕ) → length start ≡ most_start → most_start ≤ size → size < 2 ^ 63 → most_start ≤ u32_at start app_info_at → AreBytes start → AreBytes app → BeginsWith file start size
-    → length app ≡ min (size - u32_at start app_info_at) most_app → IsPart file (u32_at start app_info_at) (min (size - u32_at start app_info_at) most_app) app
+    → length app ≡ min (size - u32_at start app_info_at) most_app → IsPartOfFile file (u32_at start app_info_at) (min (size - u32_at start app_info_at) most_app) app
     → IsSplit start app size (rest_of file start (zeros_with start app size))
 after_by None start app size is long short after numbers app_numbers begins count part =
     let at = u32_at start app_info_at in
@@ -176,7 +176,7 @@ same_at first n header less =
     ∙ ap (λ (bytes : List ℕ). u32_at bytes app_info_at) (take-append-drop n first)
 
 pub split_after : (file : Option (List ℕ)) (first start app : List ℕ) (size at : ℕ) → length first ≡ most_start + most_app → length first ≤ size → size < 2 ^ 63 → most_start ≤ u32_at first app_info_at → start ≡ take most_start first → at ≡ u32_at first app_info_at
-    → AreBytes start → AreBytes app → BeginsWith file first size → length app ≡ min (size - at) most_app → IsPart file at (min (size - at) most_app) app
+    → AreBytes start → AreBytes app → BeginsWith file first size → length app ≡ min (size - at) most_app → IsPartOfFile file at (min (size - at) most_app) app
     → IsSplit start app size (rest_of file start (zeros_with start app size))
 split_after file first start app size at is long short after cut place numbers app_numbers begins count part =
     let same : u32_at start app_info_at ≡ u32_at first app_info_at =
@@ -186,7 +186,7 @@ split_after file first start app size at is long short after cut place numbers a
     after_by file start app size (ap length cut ∙ size_is) (omega (arith, is, long)) short (omega (arith, same, after)) numbers app_numbers
     (subst (λ (bytes : List ℕ). BeginsWith file bytes size) (sym cut) (shorter file first size most_start (omega (arith, is)) begins))
     (count ∙ ap (λ (n : ℕ). min (size - n) most_app) at_is)
-    (subst (λ (n : ℕ). IsPart file n (min (size - n) most_app) app) at_is part)
+    (subst (λ (n : ℕ). IsPartOfFile file n (min (size - n) most_app) app) at_is part)
 
 pub after_known : (file : Option (List ℕ)) (first start other : List ℕ) (size : ℕ) → length first ≡ most_start + most_app → start ≡ take most_start first → BeginsWith file first size → IfSome file (λ all. start ++ rest_of file start other ≡ all)
 after_known file first start other size is cut begins =
@@ -194,7 +194,7 @@ after_known file first start other size is cut begins =
 
 -- ---- the bytes that are read first
 
-pub begins : (file : Option (List ℕ)) (start : List ℕ) (size : ℕ) → length start ≡ most_start + most_app → IsPart file 0 (most_start + most_app) start → IfSome file (λ all. length all ≡ size) → IfSome file (λ all. AreBytes all)
+pub begins : (file : Option (List ℕ)) (start : List ℕ) (size : ℕ) → length start ≡ most_start + most_app → IsPartOfFile file 0 (most_start + most_app) start → IfSome file (λ all. length all ≡ size) → IfSome file (λ all. AreBytes all)
     → BeginsWith file start size
 begins None start size is part long numbers = tt
 begins (Some all) start size is part long numbers = (part ∙ ap (λ (n : ℕ). take n all) (sym is), long, numbers)

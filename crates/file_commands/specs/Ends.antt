@@ -55,12 +55,12 @@ abbrev pub EndsChanges : {V : Type 0} → (path : Option (List ℕ)) → List �
 EndsChanges path file contents old new status = EndsText (IsChangesText path file) (listing_line path) file contents old new status
 
 -- the line with the number of bytes that were written
-unfoldable pub count_line : ℕ → List ℕ
-count_line count = codes "ok " ++ (decimal count ++ codes "\n")
+unfoldable pub written_line : ℕ → List ℕ
+written_line count = codes "ok " ++ (decimal count ++ codes "\n")
 
 -- that line, and the line of the changes
 unfoldable pub rewritten_lines : Rewritten → List ℕ
-rewritten_lines rewritten = count_line rewritten.count ++ changes_line rewritten.changes
+rewritten_lines rewritten = written_line rewritten.count ++ changes_line rewritten.changes
 
 -- the canonical form of a file, and then its lines
 pub record PutsCanonical {W V : Type 0} (file : List ℕ) (file_out : Output W) (out : Output V) (ok : Bool) : Type 0 where
@@ -69,7 +69,7 @@ pub record PutsCanonical {W V : Type 0} (file : List ℕ) (file_out : Output W) 
   pub written : PutsTo file_out bytes true
   pub changes : Changes
   pub changes_are : AreChanges file changes
-  pub told : PutsTo out (count_line (length bytes) ++ changes_line changes) ok
+  pub told : PutsTo out (written_line (length bytes) ++ changes_line changes) ok
 
 -- the whole canonical form, with its size and its changes
 pub record WroteWhole {W : Type 0} (file : List ℕ) (file_out : Output W) (rewritten : Rewritten) : Type 0 where

@@ -4,6 +4,6 @@ use Rattle.file_commands.specs.declared.starts.file_read.FileRead.{FileRead}
 use Rattle.file_commands.specs.declared.starts.file_read.FileRead.TheVariants.{Whole, Start}
 
 -- all bytes of the file
-abbrev pub bytes_read : FileRead → List ℕ
-bytes_read (Whole bytes) = bytes
-bytes_read (Start bytes) = bytes
+abbrev pub bytes_of_read : FileRead → List ℕ
+bytes_of_read (Whole bytes) = bytes
+bytes_of_read (Start bytes) = bytes

@@ -14,7 +14,7 @@ use Rattle.file_parts.specs.declared.exact_writing.PlaceFault.TheVariants.{TooLa
 use Rattle.file_parts.specs.declared.keep.Keep.{Keep}
 use Rattle.program_io.specs.declared.status.Status.{Status}
 use Rattle.program_io.specs.declared.status.Status.TheVariants.{Done, Refused, BadWords, ReadFault, WriteFault, NoMemory}
-use Rattle.file_commands.specs.Ends.{EndsText, PutsFault, count_line}
+use Rattle.file_commands.specs.Ends.{EndsText, PutsFault, written_line}
 
 -- the line of the changes of a file that are left, after the line with its path if there is one
 abbrev pub IsLeftText : Keep → (path : Option (List ℕ)) → (file text : List ℕ) → Type 0
@@ -31,7 +31,7 @@ pub record PutsKept {W V : Type 0} (keep : Keep) (file : List ℕ) (file_out : O
   pub written : PutsTo file_out bytes true
   pub left : Changes
   pub are : AreChangesLeft keep file left
-  pub told : PutsTo out (count_line (length bytes) ++ changes_line left) ok
+  pub told : PutsTo out (written_line (length bytes) ++ changes_line left) ok
 
 -- the file without the lines: a write of it failed, or the flush after it
 abbrev pub PutsKeptPart : {W : Type 0} → Keep → List ℕ → Output W → Type 0

@@ -9,16 +9,16 @@ use Rattle.script_lines.specs.declared.fault.ScriptFault.TheVariants.{UnknownCom
 use Rattle.palm_text.specs.Output.{Puts}
 
 -- a fault of a line: its name, and for a faulty word its number
-abbrev pub fault_text : ScriptFault → List ℕ
-fault_text UnknownCommand = script_fault_name UnknownCommand
-fault_text WrongCount = script_fault_name WrongCount
-fault_text (BadWord word) = script_fault_name (BadWord word) ++ (codes " " ++ decimal word)
-fault_text OutOfMemory = script_fault_name OutOfMemory
+abbrev pub script_fault_text : ScriptFault → List ℕ
+script_fault_text UnknownCommand = script_fault_name UnknownCommand
+script_fault_text WrongCount = script_fault_name WrongCount
+script_fault_text (BadWord word) = script_fault_name (BadWord word) ++ (codes " " ++ decimal word)
+script_fault_text OutOfMemory = script_fault_name OutOfMemory
 
 -- the line for a refused script: `line`, the number of its first faulty line, the fault, and a
 -- newline
 abbrev pub IsFaultLine : LineFault → List ℕ → Type 0
-IsFaultLine fault line = line ≡ codes "line " ++ (decimal fault.line ++ (codes " " ++ (fault_text fault.fault ++ codes "\n")))
+IsFaultLine fault line = line ≡ codes "line " ++ (decimal fault.line ++ (codes " " ++ (script_fault_text fault.fault ++ codes "\n")))
 
 -- the line for a refused script goes to a writer
 abbrev pub PutsScriptRefused : {V : Type 0} → LineFault → (V → Option (List ℕ)) → Writing V → Writing V → Bool → Type 0

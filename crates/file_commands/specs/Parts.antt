@@ -13,7 +13,7 @@ use Rattle.file_parts.specs.declared.packing.PackFault.TheVariants.{BadLine}
 use Rattle.file_commands.specs.LineFaults as lines
 use Rattle.program_io.specs.declared.status.Status.{Status}
 use Rattle.program_io.specs.declared.status.Status.TheVariants.{Done, Refused, BadWords, ReadFault, WriteFault, NoMemory}
-use Rattle.file_commands.specs.Ends.{PutsFault, count_line}
+use Rattle.file_commands.specs.Ends.{PutsFault, written_line}
 
 -- how many parts with a number below this one are there
 unfoldable pub parts_below : TakenApart → ℕ → ℕ
@@ -53,7 +53,7 @@ pub record PutsPacked {W V : Type 0} (folder : ListedFolder) (parts : List (List
   pub packed : IsPackedOf folder parts bytes
   pub fits : folder_size folder parts ≤ most_bytes
   pub written : Puts file_contents file_old file_new bytes true
-  pub told : Puts contents old new (count_line (length bytes)) ok
+  pub told : Puts contents old new (written_line (length bytes)) ok
 
 -- the file without the line: a write of it failed, or the flush after it
 abbrev pub PutsPackedPart : {W : Type 0} → ListedFolder → List (List ℕ) → (W → Option (List ℕ)) → Writing W → Writing W → Type 0

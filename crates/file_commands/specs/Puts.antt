@@ -10,19 +10,19 @@ use Rattle.file_parts.specs.declared.replaced.ReplaceFault.TheVariants.{TooLarge
 use Rattle.program_io.specs.declared.status.Status.{Status}
 use Rattle.program_io.specs.declared.status.Status.TheVariants.{Done, Refused, BadWords, ReadFault, WriteFault, NoMemory}
 use Rattle.file_commands.specs.declared.put_command.NewBlock.{NewBlock}
-use Rattle.file_commands.specs.Ends.{count_line}
+use Rattle.file_commands.specs.Ends.{written_line}
 use Rattle.file_commands.specs.Gets.{PutsNotGot}
 use Rattle.file_commands.specs.WantedBlocks.{IsWantedRank}
 
 -- the line for a block that isn't replaced
-abbrev pub fault_line : ReplaceFault → List ℕ
-fault_line TooLarge = codes "bad TooLarge\n"
-fault_line EmptyPart = codes "bad EmptyPart\n"
-fault_line OutOfMemory = []
+abbrev pub replace_fault_line : ReplaceFault → List ℕ
+replace_fault_line TooLarge = codes "bad TooLarge\n"
+replace_fault_line EmptyPart = codes "bad EmptyPart\n"
+replace_fault_line OutOfMemory = []
 
 -- the output is this line, and no allocation failed
 abbrev pub PutsPutFault : {V : Type 0} → ReplaceFault → (V → Option (List ℕ)) → Writing V → Writing V → Bool → Type 0
-PutsPutFault fault contents old new ok = (fault ≢ OutOfMemory) × Puts contents old new (fault_line fault) ok
+PutsPutFault fault contents old new ok = (fault ≢ OutOfMemory) × Puts contents old new (replace_fault_line fault) ok
 
 -- the file with its block replaced, and then the line with its size
 pub record PutsReplaced {W V : Type 0} (file : List ℕ) (block : NewBlock) (file_out : Output W) (out : Output V) (ok : Bool) : Type 0 where
@@ -31,7 +31,7 @@ pub record PutsReplaced {W V : Type 0} (file : List ℕ) (block : NewBlock) (fil
   pub bytes : List ℕ
   pub replaces : Replaces file rank block.bytes.now bytes
   pub written : PutsTo file_out bytes true
-  pub told : PutsTo out (count_line (length bytes)) ok
+  pub told : PutsTo out (written_line (length bytes)) ok
 
 -- the file without the line: a write of it failed, or the flush after it
 abbrev pub PutsReplacedPart : {W : Type 0} → List ℕ → NewBlock → Output W → Type 0

@@ -9,11 +9,11 @@ use Rattle.canonical_file.specs.Salvage.{salvage_lines}
 use Rattle.canonical_file.specs.declared.salvage.SalvagedIds.{SalvagedIds}
 use Rattle.program_io.specs.declared.status.Status.{Status}
 use Rattle.program_io.specs.declared.status.Status.TheVariants.{Done, Refused, BadWords, ReadFault, WriteFault, NoMemory}
-use Rattle.file_commands.specs.Ends.{PutsFault, count_line}
+use Rattle.file_commands.specs.Ends.{PutsFault, written_line}
 
 -- the line with the size of the new file, and the lines about the faults of the old one
 unfoldable pub salvaged_lines : List ℕ → ℕ → List ℕ
-salvaged_lines file count = count_line count ++ salvage_lines file
+salvaged_lines file count = written_line count ++ salvage_lines file
 
 -- all of the new file went to an output, and it has `count` bytes
 abbrev pub PutWhole : {W : Type 0} → SalvagedIds → List ℕ → Output W → ℕ → Type 0

@@ -10,8 +10,8 @@ use Rattle.command_files.specs.declared.region_input.SizedFault.TheVariants.{Inp
 
 -- if the bytes of the file are known: these are the bytes from an offset on, as many as `count` if
 -- the file has them
-abbrev pub IsPart : Option (List ℕ) → ℕ → ℕ → List ℕ → Type 0
-IsPart file offset count part = IfSome file (λ all. part ≡ take count (drop offset all))
+abbrev pub IsPartOfFile : Option (List ℕ) → ℕ → ℕ → List ℕ → Type 0
+IsPartOfFile file offset count part = IfSome file (λ all. part ≡ take count (drop offset all))
 
 -- if the bytes of the file are known: it has this size, and begins with these bytes
 abbrev pub BeginsWith : Option (List ℕ) → List ℕ → ℕ → Type 0

@@ -11,7 +11,7 @@ use Rattle.heap_model.specs.declared.names.Which.{Which}
 use Rattle.heap_model.specs.declared.names.Which.TheVariants.{App, Sort}
 use Rattle.heap_model.specs.declared.refusal.Refusal.{Refusal}
 use Rattle.heap_model.specs.declared.refusal.Refusal.TheVariants.{NotResourceDatabase, IndexOutOfRange, RecordDeleted, ResourceNotFound, NoInfoBlock}
-use Rattle.file_parts.specs.Replacing.{has_block}
+use Rattle.file_parts.specs.Replacing.{has_block_of_rank}
 use Rattle.script_lines.specs.Spellings.{number_below, spelled_four}
 use Rattle.file_commands.specs.declared.block_words.WantedBlock.{WantedBlock}
 use Rattle.file_commands.specs.declared.block_words.WantedBlock.TheVariants.{Info, Entry, Resource}
@@ -84,6 +84,6 @@ LacksBlock file (Resource kind id) refusal =
 -- the rank of the block that is asked for was found, or the file doesn't have the block
 pub record FindsRank (file : List ℕ) (wanted : WantedBlock) (result : Result ℕ Refusal) : Type 0 where
   pub rank : IfOk result (IsWantedRank file wanted)
-  pub there : IfOk result (λ rank. has_block file rank ≡ true)
+  pub there : IfOk result (λ rank. has_block_of_rank file rank ≡ true)
   pub inside : IfOk result (λ rank. rank < 2 + entry_count_in file)
   pub lacks : IfErr result (LacksBlock file wanted)

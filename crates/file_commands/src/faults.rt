@@ -5,7 +5,7 @@ ghost use Rattle.heap_model.specs.Files.{IsFirstFault};
 ghost use Rattle.palm_text.specs.Output.{Puts};
 ghost use Rattle.palm_text.specs.Counted.{Writes};
 ghost use Rattle.pdb_format.specs.Opened.{most_file_bytes};
-ghost use Rattle.file_commands.specs.Ends.{PutsFaultRow, count_line, rewritten_lines};
+ghost use Rattle.file_commands.specs.Ends.{PutsFaultRow, written_line, rewritten_lines};
 ghost use Rattle.file_listing.specs.Listing.{fault_row};
 
 use canonical_file::{Changes, put_changes};
@@ -68,9 +68,9 @@ pub(crate) struct Rewritten {
 }
 
 /// Writes the line with a count.
-#[tactic(auto, unfolding(crate::specs::Ends::count_line))]
+#[tactic(auto, unfolding(crate::specs::Ends::written_line))]
 pub(crate) fn put_count<V: Write>(out: &mut Counted<V>, count: usize) -> Result<(), WriteFault>
-    ensures { Writes V.contents out.old out.new (count_line count) (is_ok result) }
+    ensures { Writes V.contents out.old out.new (written_line count) (is_ok result) }
 {
     let mut digits = Buffer::new();
     put_pieces(
@@ -86,7 +86,7 @@ pub(crate) fn put_count<V: Write>(out: &mut Counted<V>, count: usize) -> Result<
 /// Writes a count, and flushes `out`.
 #[tactic(auto, using(palm_text::proofs::Parts::then_flush))]
 pub(crate) fn put_only_count<V: Write>(out: &mut Counted<V>, count: usize) -> Result<(), WriteFault>
-    ensures { Puts V.contents out.old out.new (count_line count) (is_ok result) }
+    ensures { Puts V.contents out.old out.new (written_line count) (is_ok result) }
 {
     put_count(out, count)?;
     flushed(out)

@@ -5,7 +5,7 @@ ghost use Rattle.palm_text.specs.Output.{Puts};
 ghost use Rattle.canonical_file.specs.Canonical.{most_bytes};
 ghost use Rattle.file_parts.specs.Either.{HasFolderParts, IsListedFolder, IsPackedOf, IsReadFrom, IsTakenApart, IsTextOf, PacksFolderBack, ReadsFolder, file_taken, folder_size, form_taken};
 ghost use Rattle.file_parts.specs.declared.either.ListedFolder.{ListedFolder};
-ghost use Rattle.file_commands.specs.Ends.{count_line};
+ghost use Rattle.file_commands.specs.Ends.{written_line};
 ghost use Rattle.file_commands.specs.Parts.{EndsPack, NotListed, NotUnpacked};
 
 use crate::faults::{put_only_count, say_fault};
@@ -76,9 +76,9 @@ pub(crate) fn put_text<W: Write>(
 /// Prints `ok` and a count, and flushes `out`.
 pub fn say_count<V: Write>(count: usize, out: &mut Counted<V>) -> Status
     ensures statuses { (result ≡ Status.Done) ⊎ (result ≡ Status.WriteFault) }
-    ensures done { result ≡ Status.Done → Puts V.contents out.old out.new (count_line count) true }
+    ensures done { result ≡ Status.Done → Puts V.contents out.old out.new (written_line count) true }
     ensures write { result ≡ Status.WriteFault
-        → Puts V.contents out.old out.new (count_line count) false }
+        → Puts V.contents out.old out.new (written_line count) false }
 {
     match put_only_count(out, count) {
         Ok(()) => Status::Done,

@@ -5,7 +5,7 @@ ghost use Rattle.palm_text.specs.Output.{Puts, output};
 ghost use Rattle.canonical_file.specs.Canonical.{most_bytes};
 ghost use Rattle.file_parts.specs.ExactUnpacking.{IsUnpackedExact};
 ghost use Rattle.file_parts.specs.Replacing.{IsReplaced, bytes_replaced};
-ghost use Rattle.file_commands.specs.Ends.{count_line};
+ghost use Rattle.file_commands.specs.Ends.{written_line};
 ghost use Rattle.file_commands.specs.Puts.{EndsPut, PutsPutFault};
 
 use crate::block_words::WantedBlock;
@@ -85,11 +85,11 @@ fn put_replaced<W: Write, V: Write>(
     ensures written { result ≡ Status.Done
         → Puts W.contents file_out.old file_out.new (bytes_replaced replaced.now) true }
     ensures told { result ≡ Status.Done
-        → Puts V.contents out.old out.new (count_line (length (bytes_replaced replaced.now))) true }
+        → Puts V.contents out.old out.new (written_line (length (bytes_replaced replaced.now))) true }
     ensures write { result ≡ Status.WriteFault
         → (Puts W.contents file_out.old file_out.new (bytes_replaced replaced.now) false × (out.new ≡ out.old))
         ⊎ (Puts W.contents file_out.old file_out.new (bytes_replaced replaced.now) true
-        × Puts V.contents out.old out.new (count_line (length (bytes_replaced replaced.now))) false) }
+        × Puts V.contents out.old out.new (written_line (length (bytes_replaced replaced.now))) false) }
 {
     match put_flushed(replaced, file_out) {
         Ok(()) => say_count(replaced.size(), out),

@@ -4,7 +4,7 @@ ghost use Rattle.std.specs.Prelude.{◌≡◌, ◌+◌, ◌<◌, ◌↔◌, IfOk
 ghost use Rattle.heap_model.specs.Database.{resources_in, entry_count_in};
 ghost use Rattle.heap_model.specs.ResourceSteps.{HasTypeAndId};
 ghost use Rattle.db_format.specs.EitherEntry.{entry_of};
-ghost use Rattle.file_parts.specs.Replacing.{has_block};
+ghost use Rattle.file_parts.specs.Replacing.{has_block_of_rank};
 ghost use Rattle.file_commands.specs.WantedBlocks.{FindsRank, HasNoResource, IsFirstResource, IsWantedBlock, LacksBlock, block_of_rank, info_rank};
 
 use crate::block_words::WantedBlock;
@@ -117,7 +117,7 @@ fn first_resource(file: &PdbFile<'_>, kind: u32, id: u16) -> Option<u16>
 fn rank_of_first(file: &PdbFile<'_>, kind: u32, id: u16, index: u16) -> usize
     requires { IsFirstResource file.now kind id index }
     ensures is { result ≡ 2 + index }
-    ensures there { has_block file.now result ≡ true }
+    ensures there { has_block_of_rank file.now result ≡ true }
 {
     file.know_file();
     INFO_BLOCKS + index as usize

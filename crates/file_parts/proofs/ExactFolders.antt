@@ -15,7 +15,7 @@ use Rattle.file_parts.specs.Texts.{app_name, entry_name, name_if_data, named_ent
 use Rattle.file_parts.specs.Laws.{HasText, IsPartName}
 use Rattle.file_parts.specs.Packing.{part_at}
 use Rattle.file_parts.specs.Exact.{ExactFile, IsExactly}
-use Rattle.file_parts.specs.ExactTexts.{after_name_of, exact_of_parts, exact_text, filler_named, order_of, text_of}
+use Rattle.file_parts.specs.ExactTexts.{after_name_of, exact_of_parts, exact_text, filler_named, order_of, text_of_exact}
 use Rattle.file_parts.specs.ExactReading.{read_exact}
 use Rattle.file_parts.specs.ExactLaws.{PacksBackExactly, exact_parts}
 use Rattle.file_parts.proofs.PackedBack.{u16_small}
@@ -93,7 +93,7 @@ few_blocks file bytes =
     let small = u16_small file 76 bytes in
     omega arith
 
-readable : (file : List ℕ) (exact : ExactFile) → AreBytes file → IsExactly file exact → IsReadable (text_of exact)
+readable : (file : List ℕ) (exact : ExactFile) → AreBytes file → IsExactly file exact → IsReadable (text_of_exact exact)
 readable file exact bytes is =
     let sorted = order_sorted file exact bytes is in
     let names = names_are file exact is in
@@ -106,8 +106,8 @@ readable file exact bytes is =
       good = λ n. order_good file exact.order (data_in (with_names exact.database)) n sorted (there_as file exact is);
     }
 
-pub text_back : (file : List ℕ) (exact : ExactFile) → AreBytes file → IsExactly file exact → read_exact (exact_text (text_of exact)) ≡ Some (Ok (text_of exact))
-text_back file exact bytes is = text_read (text_of exact) (readable file exact bytes is)
+pub text_back : (file : List ℕ) (exact : ExactFile) → AreBytes file → IsExactly file exact → read_exact (exact_text (text_of_exact exact)) ≡ Some (Ok (text_of_exact exact))
+text_back file exact bytes is = text_read (text_of_exact exact) (readable file exact bytes is)
 
 -- ---- the parts
 
@@ -120,11 +120,11 @@ filler_back (b ∷ bytes) blocks count long =
     let some = ne_eqb (length (b ∷ bytes)) 0 (λ e. (omega arith)) in
     rw some (ap (λ (n : ℕ). part_at (blocks ++ (b ∷ bytes) ∷ []) n) (sym long) ∙ get_or-append_seam blocks (b ∷ bytes) [] [])
 
-pub parts_back : (file : List ℕ) (exact : ExactFile) → AreBytes file → IsExactly file exact → exact_of_parts (text_of exact) (exact_parts exact) ≡ exact
+pub parts_back : (file : List ℕ) (exact : ExactFile) → AreBytes file → IsExactly file exact → exact_of_parts (text_of_exact exact) (exact_parts exact) ≡ exact
 unfolding whole
 parts_back file exact bytes is =
     let d : Database (Option (List ℕ)) = exact.database in
-    let text = text_of exact in
+    let text = text_of_exact exact in
     let blocks : List (List ℕ) = map block_bytes (data_in d) in
     let long = length-map (data_in d) block_bytes in
     let count = names_long d in

@@ -19,7 +19,7 @@ use Rattle.file_parts.specs.ExactWriting.{IsPlaceFault}
 use Rattle.file_parts.specs.declared.replaced.Replacing.{Replacing}
 use Rattle.file_parts.specs.Exact.{ExactFile, exact_block, exact_bytes, exact_size, is_misplaced}
 use Rattle.file_parts.specs.ExactUnpacking.{exact_of}
-use Rattle.file_parts.specs.Replacing.{IsReplaced, IsReplacing, IsReplaceFault, Replaces, block_in, block_replaced, entries_replaced, bytes_replaced, exact_replacing, has_block, size_fault}
+use Rattle.file_parts.specs.Replacing.{IsReplaced, IsReplacing, IsReplaceFault, Replaces, block_in, block_replaced, entries_replaced, bytes_replaced, exact_replacing, has_block_of_rank, size_fault}
 use Rattle.file_parts.proofs.ExactFits.{all_writable, count_small, file_header, file_name}
 use Rattle.file_parts.proofs.ExactFolders.{names_are}
 use Rattle.file_parts.proofs.ExactInside.{inside_some}
@@ -53,16 +53,16 @@ there_as file =
     let offsets = offset_count file in
     record { long = omega arith; some = λ r inside. refl }
 
-there_new : (r : Replacing) (q : ℕ) → IsReplacing r → q < length (blocks_in r.unpacked.file) → has_block r.unpacked.file q ≡ true → is_some (exact_block (exact_replacing r) q) ≡ true
+there_new : (r : Replacing) (q : ℕ) → IsReplacing r → q < length (blocks_in r.unpacked.file) → has_block_of_rank r.unpacked.file q ≡ true → is_some (exact_block (exact_replacing r) q) ≡ true
 there_new r q g inside some = ap is_some (block_is r q inside) ∙ by_test (q == r.at) refl where
   by_test : (v : Bool) → (q == r.at) ≡ v → is_some (block_replaced r.at r.part.now q (block_in r.unpacked.file q)) ≡ true
   by_test true is = rw is refl
   by_test false is = rw is some
 
-there_old : (r : Replacing) (q : ℕ) → IsReplacing r → q < length (blocks_in r.unpacked.file) → is_some (exact_block (exact_replacing r) q) ≡ true → has_block r.unpacked.file q ≡ true
+there_old : (r : Replacing) (q : ℕ) → IsReplacing r → q < length (blocks_in r.unpacked.file) → is_some (exact_block (exact_replacing r) q) ≡ true → has_block_of_rank r.unpacked.file q ≡ true
 there_old r q g inside some = by_test (q == r.at) refl where
-  by_test : (v : Bool) → (q == r.at) ≡ v → has_block r.unpacked.file q ≡ true
-  by_test true is = ap (has_block r.unpacked.file) (eqb-true q r.at is) ∙ g.there
+  by_test : (v : Bool) → (q == r.at) ≡ v → has_block_of_rank r.unpacked.file q ≡ true
+  by_test true is = ap (has_block_of_rank r.unpacked.file) (eqb-true q r.at is) ∙ g.there
   by_test false is = ap is_some (sym (block_is r q inside ∙ replaced_else r.at r.part.now q (block_in r.unpacked.file q) is)) ∙ some
 
 there : (r : Replacing) (q : ℕ) → IsReplacing r → 0 < times q r.unpacked.ranks.items → is_some (exact_block (exact_replacing r) q) ≡ true
@@ -71,7 +71,7 @@ there r q g some =
     let ranks : List ℕ = r.unpacked.ranks.items in
     let found = contained-times q ranks some in
     let is : get_or ranks found.0 0 ≡ q = get_or-same ranks found.0 0 q found.1 ∙ found.2 in
-    let here : has_block file q ≡ true = ap (has_block file) (sym is) ∙ rank_there file ranks (blocks_in file) found.0 (sorted_in r g) (there_as file) found.1 in
+    let here : has_block_of_rank file q ≡ true = ap (has_block_of_rank file) (sym is) ∙ rank_there file ranks (blocks_in file) found.0 (sorted_in r g) (there_as file) found.1 in
     there_new r q g (inside_some (blocks_in file) q here) here
 
 all : (r : Replacing) (q : ℕ) → IsReplacing r → is_some (exact_block (exact_replacing r) q) ≡ true → 0 < times q r.unpacked.ranks.items

@@ -13,7 +13,7 @@ use Rattle.file_parts.specs.Reading.{read_database}
 use Rattle.file_parts.specs.Left.{Left}
 use Rattle.file_parts.specs.Laws.{IsCanonicallyPacked, PacksBack}
 use Rattle.file_parts.specs.Exact.{IsExactly, exact_size, exact_tail}
-use Rattle.file_parts.specs.ExactTexts.{ExactText, exact_text, text_of}
+use Rattle.file_parts.specs.ExactTexts.{ExactText, exact_text, text_of_exact}
 use Rattle.file_parts.specs.ExactReading.{read_exact, read_exact_from}
 use Rattle.file_parts.specs.ExactListed.{HasExactParts, IsExactPackFault, IsExactlyPacked, IsListedExact, exact_listed, exact_packed, part_listed}
 use Rattle.file_parts.specs.ExactLaws.{PacksBackExactly}
@@ -70,7 +70,7 @@ IsTakenPart (taken.Exact unpacked) number part = IsExactPart unpacked.file numbe
 -- its text
 abbrev pub IsTextOf : TakenApart → List ℕ → Type 0
 IsTextOf (taken.Canonical unpacked) text = (database : Database (Option (List ℕ))) × Reads unpacked.file database × (text ≡ database_text (with_names database))
-IsTextOf (taken.Exact unpacked) text = text ≡ exact_text (text_of (exact_of unpacked))
+IsTextOf (taken.Exact unpacked) text = text ≡ exact_text (text_of_exact (exact_of unpacked))
 
 -- ---- a text that is read
 

@@ -5,7 +5,7 @@ use Rattle.heap_model.specs.Database.{data_in}
 use Rattle.heap_model.specs.Files.{block_bytes}
 use Rattle.canonical_file.specs.Canonical.{most_bytes}
 use Rattle.file_parts.specs.Exact.{ExactFile, IsExactly, exact_bytes, exact_size, is_misplaced}
-use Rattle.file_parts.specs.ExactTexts.{exact_of_parts, exact_text, text_of}
+use Rattle.file_parts.specs.ExactTexts.{exact_of_parts, exact_text, text_of_exact}
 use Rattle.file_parts.specs.ExactReading.{read_exact}
 use Rattle.file_parts.specs.ExactListed.{HasExactParts, IsExactlyPacked, exact_packed}
 use Rattle.file_parts.specs.declared.exact_listed.ListedExact.{ListedExact}
@@ -24,8 +24,8 @@ pub record IsSpelledExactly (file : List ℕ) (exact : ExactFile) : Type 0 where
 -- No block is misplaced, and the size is that of the file, so `pack` refuses it only if it would
 -- refuse the size of the file itself.
 pub record PacksBackExactly (file : List ℕ) (exact : ExactFile) : Type 0 where
-  pub text : read_exact (exact_text (text_of exact)) ≡ Some (Ok (text_of exact))
-  pub parts : exact_of_parts (text_of exact) (exact_parts exact) ≡ exact
+  pub text : read_exact (exact_text (text_of_exact exact)) ≡ Some (Ok (text_of_exact exact))
+  pub parts : exact_of_parts (text_of_exact exact) (exact_parts exact) ≡ exact
   pub spelled : IsSpelledExactly file exact
 
 -- a file without fault is the bytes of what it is exactly, and has no misplaced block
@@ -34,7 +34,7 @@ ExactFilesAreSpelled = (file : List ℕ) (exact : ExactFile) → AreBytes file �
 
 -- the text of what a file is exactly is read back
 abbrev pub ExactTextsAreRead : Type 0
-ExactTextsAreRead = (file : List ℕ) (exact : ExactFile) → AreBytes file → IsExactly file exact → read_exact (exact_text (text_of exact)) ≡ Some (Ok (text_of exact))
+ExactTextsAreRead = (file : List ℕ) (exact : ExactFile) → AreBytes file → IsExactly file exact → read_exact (exact_text (text_of_exact exact)) ≡ Some (Ok (text_of_exact exact))
 
 -- each file without fault is packed back
 abbrev pub ExactFoldersPackBack : Type 0

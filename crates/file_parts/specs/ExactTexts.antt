@@ -84,8 +84,8 @@ abbrev pub unless_rising : List ℕ → List ℕ
 unless_rising ranks = if is_rising ranks then [] else ranks
 
 -- the text of a file as it stands, with the names that its parts get
-abbrev pub text_of : ExactFile → ExactText
-text_of exact = record {
+abbrev pub text_of_exact : ExactFile → ExactText
+text_of_exact exact = record {
   database = with_names exact.database;
   after_name = unless_zeros exact.after_name;
   filler = filler_named exact.filler;

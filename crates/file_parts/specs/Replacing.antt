@@ -44,8 +44,8 @@ file_replaced exact at bytes = record {
 abbrev pub block_in : List ℕ → ℕ → Option (List ℕ)
 block_in file rank = slice_index_or (blocks_in file) rank None
 
-abbrev pub has_block : List ℕ → ℕ → Bool
-has_block file rank = is_some (block_in file rank)
+abbrev pub has_block_of_rank : List ℕ → ℕ → Bool
+has_block_of_rank file rank = is_some (block_in file rank)
 
 -- These bytes are those of the file with the block of the rank `at` replaced by the part. They are
 -- a file without fault, and it is exactly this one. If the part is the block that the file has, they
@@ -53,7 +53,7 @@ has_block file rank = is_some (block_in file rank)
 pub record Replaces (file : List ℕ) (at : ℕ) (part bytes : List ℕ) : Type 0 where
   pub exact : ExactFile
   pub exactly : IsExactly file exact
-  pub there : has_block file at ≡ true
+  pub there : has_block_of_rank file at ≡ true
   pub is : bytes ≡ exact_bytes (file_replaced exact at part)
   pub fits : length bytes ≤ most_bytes
   pub read : IsExactly bytes (file_replaced exact at part)
@@ -76,7 +76,7 @@ size_fault places.OutOfMemory = OutOfMemory
 pub record IsReplacing (replacing : Replacing) : Type 0 where
   pub good : IsUnpackedExact replacing.unpacked
   pub numbers : AreBytes replacing.unpacked.file
-  pub there : has_block replacing.unpacked.file replacing.at ≡ true
+  pub there : has_block_of_rank replacing.unpacked.file replacing.at ≡ true
 
 -- the file with the block replaced
 abbrev pub exact_replacing : Replacing → ExactFile

@@ -25,8 +25,8 @@ abbrev pub without_entries : DatabaseHeader → (app sort : Bool) → Database (
 without_entries header app sort = record { header = header; app_info = part_if app; sort_info = part_if sort; entries = [] }
 
 -- a database with an entry more
-abbrev pub with_value : Database (Option (List ℕ)) → DbEntry → Bool → Database (Option (List ℕ))
-with_value database entry has_data = record database { entries = database.entries ++ valued entry has_data ∷ [] }
+abbrev pub with_next_entry : Database (Option (List ℕ)) → DbEntry → Bool → Database (Option (List ℕ))
+with_next_entry database entry has_data = record database { entries = database.entries ++ valued entry has_data ∷ [] }
 
 -- no file has this entry after those of a database
 abbrev pub IsNoEntryAfter : Database (Option (List ℕ)) → DbEntry → Bool → Type 0

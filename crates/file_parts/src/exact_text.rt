@@ -8,7 +8,7 @@ ghost use Rattle.palm_text.specs.Pieces.{piece_text};
 ghost use Rattle.file_parts.specs.Texts.{body_lines, database_text, entry_lines, with_names};
 ghost use Rattle.file_parts.specs.Exact as files;
 ghost use Rattle.file_parts.specs.Exact.{exact_database};
-ghost use Rattle.file_parts.specs.ExactTexts.{exact_lines, exact_text, is_rising, order_line, order_lines, rank_word, text_of};
+ghost use Rattle.file_parts.specs.ExactTexts.{exact_lines, exact_text, is_rising, order_line, order_lines, rank_word, text_of_exact};
 ghost use Rattle.file_parts.specs.ExactUnpacking.{IsUnpackedExact, after_name_text, exact_entry_line, exact_of, filler_text, order_text};
 
 use crate::exact_unpacked::UnpackedExact;
@@ -29,7 +29,7 @@ pub(crate) fn put_exact<W: Write>(
     unpacked: &UnpackedExact<'_>,
 ) -> Result<(), WriteFault>
     requires { IsUnpackedExact unpacked.now }
-    ensures { Writes W.contents out.old out.new (exact_text (text_of (exact_of unpacked.now))) (is_ok result) }
+    ensures { Writes W.contents out.old out.new (exact_text (text_of_exact (exact_of unpacked.now))) (is_ok result) }
 {
     match put_lines(out, unpacked) {
         Ok(()) => put_database_lines(out, &unpacked.file),
@@ -40,7 +40,7 @@ pub(crate) fn put_exact<W: Write>(
 /// Writes the lines before those of the database.
 fn put_lines<W: Write>(out: &mut Counted<W>, unpacked: &UnpackedExact<'_>) -> Result<(), WriteFault>
     requires { IsUnpackedExact unpacked.now }
-    ensures { Writes W.contents out.old out.new (exact_lines (text_of (exact_of unpacked.now))) (is_ok result) }
+    ensures { Writes W.contents out.old out.new (exact_lines (text_of_exact (exact_of unpacked.now))) (is_ok result) }
 {
     match put_pieces(out, &[Piece::Text(b"exact\n")]) {
         Ok(()) => put_more(out, unpacked),

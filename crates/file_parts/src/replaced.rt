@@ -6,7 +6,7 @@ ghost use Rattle.heap_model.specs.Files.{block_bytes, blocks_in};
 ghost use Rattle.palm_text.specs.Counted.{Writes};
 ghost use Rattle.file_parts.specs.Exact as files;
 ghost use Rattle.file_parts.specs.ExactUnpacking.{IsUnpackedExact};
-ghost use Rattle.file_parts.specs.Replacing.{IsReplaced, IsReplaceFault, IsReplacing, Replaces, block_in, bytes_replaced, exact_replacing, has_block, size_fault};
+ghost use Rattle.file_parts.specs.Replacing.{IsReplaced, IsReplaceFault, IsReplacing, Replaces, block_in, bytes_replaced, exact_replacing, has_block_of_rank, size_fault};
 
 use crate::exact_unpacked::UnpackedExact;
 use crate::exact_writing::{ExactSource, PlaceFault, Places, place_blocks, put_exact, rank_at};
@@ -104,7 +104,7 @@ pub fn replace_block<'a, A: Allowance>(
     part: &'a [u8],
 ) -> Result<Replaced<'a>, ReplaceFault>
     requires good { IsUnpackedExact unpacked }
-    requires there { has_block unpacked.file at ≡ true }
+    requires there { has_block_of_rank unpacked.file at ≡ true }
     ensures done { IfOk result IsReplaced }
     ensures replaces { IfOk result (λ replaced.
         Replaces unpacked.entry.file at part.now (bytes_replaced replaced)) }

@@ -92,7 +92,7 @@ pub fn list_entry<A: Allowance>(
     requires { IsListed listed.old }
     ensures good { IsListed listed.new }
     ensures added { OnOk result (database_listed listed.new
-        ≡ values.with_value (database_listed listed.old) entry has_data) }
+        ≡ values.with_next_entry (database_listed listed.old) entry has_data) }
     ensures bad { result ≡ Err ValueFault.NoFile
         → values.IsNoEntryAfter (database_listed listed.old) entry has_data }
     ensures short { result ≡ Err ValueFault.OutOfMemory → A.is_short memory.now }

@@ -24,8 +24,8 @@ abbrev pub is_in_name : ℕ → Bool
 is_in_name b = (b == 0) || nat_le 32 b
 
 -- the field of the name has a zero byte at its end, and no control character below space before it
-abbrev pub has_name : List ℕ → Bool
-has_name file = (slice_index file (name_size - 1) == 0) && list_all is_in_name (take name_size file)
+abbrev pub has_name_field : List ℕ → Bool
+has_name_field file = (slice_index file (name_size - 1) == 0) && list_all is_in_name (take name_size file)
 
 -- type and creator can be printed
 abbrev pub has_kinds : List ℕ → Bool
@@ -44,8 +44,8 @@ has_some_kind file =
 -- entries. Without the second, type and creator aren't zero bytes.
 abbrev pub has_header : List ℕ → Bool
 has_header file =
-    if has_kinds file then has_one_list file || has_name file
-    else has_one_list file && has_name file && has_some_kind file
+    if has_kinds file then has_one_list file || has_name_field file
+    else has_one_list file && has_name_field file && has_some_kind file
 
 -- the file has such a header, and doesn't look like a heap image
 abbrev pub looks_like_database : List ℕ → Bool

@@ -269,7 +269,7 @@ const NUMBER: &str = "a number below 4294967296";
 
 const FOUR_BYTES: &str = "a text of four bytes, as \"DATA\"";
 
-const PART: &str = "the name of a part (letters, digits, _, - and .), or none";
+const PART_NAME: &str = "the name of a part (letters, digits, _, - and .), or none";
 
 const RECORD_PART: &str =
     "the name of a part (letters, digits, _, - and .); only a deleted record may have none";
@@ -300,7 +300,7 @@ fn words_after(first: &[u8]) -> &'static [&'static str]
     } else if first == b"seed".as_slice() {
         &["a hex number below 100000000"]
     } else if takes_part(first) {
-        &[PART]
+        &[PART_NAME]
     } else if first == b"namefield".as_slice() {
         &[AFTER_NAME]
     } else if first == b"order".as_slice() {

@@ -57,17 +57,17 @@ fn has_header(file: &[u8]) -> bool
 {
     let is_one_list = file[NEXT_LIST_AT..ENTRY_COUNT_AT] == ZERO[..];
     if are_printable(&file[TYPE_AT..SEED_AT]) {
-        is_one_list || has_name(file)
+        is_one_list || has_name_field(file)
     } else {
-        is_one_list && has_name(file) && file[TYPE_AT..SEED_AT] != NO_KINDS[..]
+        is_one_list && has_name_field(file) && file[TYPE_AT..SEED_AT] != NO_KINDS[..]
     }
 }
 
 /// Returns whether a header has a name, which may be empty: the last byte of its field is zero, and
 /// the others are no control characters below space, but zero.
-fn has_name(file: &[u8]) -> bool
+fn has_name_field(file: &[u8]) -> bool
     requires { NAME_SIZE ≤ length file.now }
-    ensures { result ≡ words.has_name file.now }
+    ensures { result ≡ words.has_name_field file.now }
 {
     file[NAME_SIZE - 1] == 0 && are_in_name(&file[..NAME_SIZE])
 }

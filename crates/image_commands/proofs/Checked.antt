@@ -8,7 +8,7 @@ use Rattle.store_check.specs.Checks.{SummarizesStore, IsAnswered, IsRefusal}
 use Rattle.image_commands.proofs.Answered.{first_fault}
 use Rattle.palm_text.specs.Output.{IsUnused, Output, PutsTo}
 use Rattle.image_commands.specs.FaultLines.{Says}
-use Rattle.image_commands.specs.ImageChecks.{PutsFault, EndsCheck, fault_in, summary_in}
+use Rattle.image_commands.specs.ImageChecks.{PutsFault, EndsCheck, fault_in_form, summary_in}
 use Rattle.program_io.specs.declared.command_line.Form.{Form}
 use Rattle.program_io.specs.declared.status.Status.{Status}
 use Rattle.program_io.specs.declared.status.Status.TheVariants.{Done, Refused, BadWords, ReadFault, WriteFault, NoMemory}
@@ -24,7 +24,7 @@ one_of status x y z (inr e) is first second = second (sym e ∙ is)
 
 module _ {V : Type 0} (form : Form) (out : Output V) (image : List ℕ) where
   -- what is printed for a fault is printed for the first fault of the image
-  pub puts_fault : (fault : StoreFault) (ok : Bool) → fault ≢ OutOfMemory → IsAnswered image fault → PutsTo out (fault_in form fault) ok → PutsFault form image out ok
+  pub puts_fault : (fault : StoreFault) (ok : Bool) → fault ≢ OutOfMemory → IsAnswered image fault → PutsTo out (fault_in_form form fault) ok → PutsFault form image out ok
   puts_fault fault ok other answered puts = (fault, first_fault image fault other answered, puts)
 
   -- so `check` ends as it has to
@@ -40,7 +40,7 @@ module _ {V : Type 0} (form : Form) (out : Output V) (image : List ℕ) where
     reads_nothing = λ e. one_of status Done WriteFault ReadFault (says (λ short. (let both = sym e ∙ short in cc))).statuses e (λ e. cc) (λ e. cc);
   }
 
-  pub fault_ends : (fault : StoreFault) (status : Status) → fault ≢ OutOfMemory → IsAnswered image fault → IsRefusal image fault → Says out (fault_in form fault) Refused status → EndsCheck form image out status
+  pub fault_ends : (fault : StoreFault) (status : Status) → fault ≢ OutOfMemory → IsAnswered image fault → IsRefusal image fault → Says out (fault_in_form form fault) Refused status → EndsCheck form image out status
   fault_ends fault status other answered refusal says = record {
     done = λ e. absurd (one_of status Refused WriteFault Done says.statuses e (λ e. cc) (λ e. cc));
     accepted = λ e. absurd (one_of status Refused WriteFault Done says.statuses e (λ e. cc) (λ e. cc));

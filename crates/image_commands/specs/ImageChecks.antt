@@ -43,9 +43,9 @@ abbrev pub summary_in : Form → StoreSummary → List ℕ
 summary_in Text summary = summary_lines summary
 summary_in Json summary = summary_json summary
 
-abbrev pub fault_in : Form → StoreFault → List ℕ
-fault_in Text fault = fault_line fault
-fault_in Json fault = image_fault_json fault
+abbrev pub fault_in_form : Form → StoreFault → List ℕ
+fault_in_form Text fault = fault_line fault
+fault_in_form Json fault = image_fault_json fault
 
 module _ {V : Type 0} where
   abbrev pub PutsSummary : Form → List ℕ → Output V → Bool → Type 0
@@ -53,7 +53,7 @@ module _ {V : Type 0} where
 
   -- for the first fault of an image
   abbrev pub PutsFault : Form → List ℕ → Output V → Bool → Type 0
-  PutsFault form image out ok = (fault : StoreFault) × stores.IsFirstStoreFault image fault × PutsTo out (fault_in form fault) ok
+  PutsFault form image out ok = (fault : StoreFault) × stores.IsFirstStoreFault image fault × PutsTo out (fault_in_form form fault) ok
 
   -- what `check` wrote for an image
   abbrev pub EndsCheck : Form → List ℕ → Output V → Status → Type 0

@@ -7,7 +7,7 @@ ghost use Rattle.palm_text.specs.Output.{Puts, output};
 ghost use Rattle.chunk_format.specs.FaultNames.{blank_fault_name};
 ghost use Rattle.program_io.specs.BadLines.{bad_line};
 ghost use Rattle.image_commands.specs.FaultDocuments.{image_fault_json};
-ghost use Rattle.image_commands.specs.ImageChecks.{fault_in};
+ghost use Rattle.image_commands.specs.ImageChecks.{fault_in_form};
 ghost use Rattle.image_commands.specs.FaultLines.{Says, fault_line, formed, formed_fault};
 
 use chunk_format::BlankFault;
@@ -34,7 +34,7 @@ struct FaultForm {
 /// Prints the fault of an image in a form: the line or the document. Returns `Refused`, or
 /// `WriteFault` if a write or the flush failed.
 pub fn say_fault<V: Write>(out: &mut Counted<V>, form: Form, fault: StoreFault) -> Status
-    ensures { Says (output V.contents out.old out.new) (fault_in form fault) Status.Refused result }
+    ensures { Says (output V.contents out.old out.new) (fault_in_form form fault) Status.Refused result }
 {
     match form {
         Form::Text => say_bad_image(out, fault),

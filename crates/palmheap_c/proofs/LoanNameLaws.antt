@@ -3,9 +3,9 @@ use Rattle.std.proofs.Common.{◌≡◌, ◌<◌, ℕ, List, length, take, drop,
 use Rattle.heap_model.specs.Memory.{Memory}
 use Rattle.heap_model.specs.declared.names.Name.{Name}
 use Rattle.mem_manager.specs.Loans.{AreLoansAbove}
-use Rattle.palmheap_c.specs.LoanNames.{AreLoans, HasMoreLoans, numbers_of}
+use Rattle.palmheap_c.specs.LoanNames.{AreLoans, HasMoreLoans, numbers_of_names}
 
-pub are_loans : (store : Memory) (names : List Name) (old new : List ℕ) → AreLoansAbove store 0 names → take (length names) new ≡ numbers_of names → drop (length names) new ≡ drop (length names) old
+pub are_loans : (store : Memory) (names : List Name) (old new : List ℕ) → AreLoansAbove store 0 names → take (length names) new ≡ numbers_of_names names → drop (length names) new ≡ drop (length names) old
     → AreLoans store old new (length names)
 are_loans store names old new all copied others = record { names = names; all = all; counted = refl; are = copied; others = others }
 

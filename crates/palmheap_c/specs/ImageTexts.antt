@@ -4,7 +4,7 @@ use Rattle.heap_model.specs.Store.{Accepted, store_of}
 use Rattle.heap_map.specs.Text.{map_text}
 use Rattle.heap_svg.specs.Drawing.{IsDrawing}
 use Rattle.program_io.specs.declared.command_line.Form.{Form}
-use Rattle.store_commands.specs.DatabaseForms.{rows_in}
+use Rattle.store_commands.specs.DatabaseForms.{rows_in_form}
 use Rattle.store_commands.specs.Databases.{listed_rows}
 use Rattle.palmheap_c.specs.Answers.{IsImageFault, IsMemoryAnswer}
 use Rattle.palmheap_c.specs.Buffers.{Buffer, PutsBytes}
@@ -25,7 +25,7 @@ pub record IsPictureIn (form : PictureForm) (image text : List ℕ) : Type 0 whe
 -- the image is accepted, and these are the lines of its databases, or their document
 pub record AreDatabasesIn (form : Form) (image text : List ℕ) : Type 0 where
   pub accepted : Accepted image
-  pub text_is : text ≡ rows_in form (listed_rows (store_of image))
+  pub text_is : text ≡ rows_in_form form (listed_rows (store_of image))
 
 -- an allocation failed, or this is the first fault of the image
 abbrev pub IsTextRefusal : List ℕ → Answer → Type 0

@@ -8,8 +8,8 @@ use Rattle.heap_model.specs.declared.refusal.Refusal.TheVariants.{OutOfMemory}
 use Rattle.mem_manager.specs.Loans.{AreLoansAbove}
 use Rattle.palmheap_c.specs.Buffers.{call_no_room}
 
-abbrev pub numbers_of : List Name → List ℕ
-numbers_of names = map (λ name. name.0) names
+abbrev pub numbers_of_names : List Name → List ℕ
+numbers_of_names names = map (λ name. name.0) names
 
 -- The first `count` of the new numbers are the names of all chunks that are out, in order of their
 -- places. The other numbers are unchanged.
@@ -17,7 +17,7 @@ pub record AreLoans (store : Memory) (old new : List ℕ) (count : ℕ) : Type 0
   pub names : List Name
   pub all : AreLoansAbove store 0 names
   pub counted : count ≡ length names
-  pub are : take count new ≡ numbers_of names
+  pub are : take count new ≡ numbers_of_names names
   pub others : drop count new ≡ drop count old
 
 -- more chunks are out than there is room for

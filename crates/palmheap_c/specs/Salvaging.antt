@@ -25,17 +25,17 @@ IsSalvageRefusal file found =
     ⊎ ((length file ≤ most_bytes) × (((length file < header_size) × IsFileFault file found) ⊎ ((header_size ≤ length file) × IsMemoryAnswer found)))
 
 -- the memory of the caller that is written
-pub record Outputs : Type 0 where
+pub record SalvageOutputs : Type 0 where
   pub bytes : List ℕ
   pub count : ℕ
   pub faults : ℕ
 
-abbrev pub outputs : List ℕ → (count faults : ℕ) → Outputs
-outputs bytes count faults = record { bytes = bytes; count = count; faults = faults }
+abbrev pub salvage_outputs : List ℕ → (count faults : ℕ) → SalvageOutputs
+salvage_outputs bytes count faults = record { bytes = bytes; count = count; faults = faults }
 
 -- The new file was written, or the buffer is too short for it, and the faults are counted.
 -- Otherwise the file is refused, and nothing was written.
-abbrev pub IsSalvageAnswer : Bool → List ℕ → (old new : Outputs) → Answer → Type 0
+abbrev pub IsSalvageAnswer : Bool → List ℕ → (old new : SalvageOutputs) → Answer → Type 0
 IsSalvageAnswer exact_ids file old new found =
     ((bytes : List ℕ) × Salvages (rule_of exact_ids) file bytes × PutsBytes bytes old.bytes new.bytes new.count found × (new.faults ≡ count_by is_line_end (salvage_lines file)))
     ⊎ (IsSalvageRefusal file found × (new ≡ old))

@@ -1,7 +1,7 @@
 //! The names of all chunks whose bytes are taken out.
 
 ghost use Rattle.std.specs.Prelude.{◌≡◌, ◌≤◌, drop, length, take};
-ghost use Rattle.palmheap_c.specs.LoanNames.{IsLoansAnswer, numbers_of};
+ghost use Rattle.palmheap_c.specs.LoanNames.{IsLoansAnswer, numbers_of_names};
 
 use crate::buffers::CALL_NO_ROOM;
 use crate::calls::refused;
@@ -39,7 +39,7 @@ pub extern "C" fn palmheap_loans(
 /// Copies names to the start of `to`.
 fn put_names(to: &mut [u32], names: &[Name])
     requires { length names.now ≤ length to.old }
-    ensures copied { take (length names.now) to.new ≡ numbers_of names.now }
+    ensures copied { take (length names.now) to.new ≡ numbers_of_names names.now }
     ensures others { drop (length names.now) to.new ≡ drop (length names.now) to.old }
 {
     for index in 0..names.len() {

@@ -30,8 +30,8 @@ pub extern "C" fn palmheap_salvage(
     faults: &mut usize,
 ) -> Answer
     ensures { words.IsSalvageAnswer exact_ids file.now
-        (words.outputs salvaged.old count.old faults.old)
-        (words.outputs salvaged.new count.new faults.new) result }
+        (words.salvage_outputs salvaged.old count.old faults.old)
+        (words.salvage_outputs salvaged.new count.new faults.new) result }
 {
     let bytes = match salvaged_of(alloc, file, rule_of(exact_ids)) {
         Ok(bytes) => bytes,

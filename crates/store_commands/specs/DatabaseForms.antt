@@ -12,10 +12,10 @@ use Rattle.store_commands.specs.DatabasesJson.{databases_document}
 use Rattle.store_commands.specs.declared.databases.Row.{Row}
 
 -- the lines of databases, or the document of all
-abbrev pub rows_in : Form → List Row → List ℕ
-rows_in Text rows = rows_text rows
-rows_in Json rows = databases_document rows
+abbrev pub rows_in_form : Form → List Row → List ℕ
+rows_in_form Text rows = rows_text rows
+rows_in_form Json rows = databases_document rows
 
 -- what `databases` wrote of an image, by the status with which it ends
 abbrev pub EndsDatabases : {V : Type 0} → Form → List ℕ → Output V → Status → Type 0
-EndsDatabases form image out = EndsPrinted image (PutsTo out (rows_in form (listed_rows (store_of image)))) (PutsFault form image out) out
+EndsDatabases form image out = EndsPrinted image (PutsTo out (rows_in_form form (listed_rows (store_of image)))) (PutsFault form image out) out

@@ -7,7 +7,7 @@ ghost use Rattle.palm_store.specs.Databases.{HasNumber};
 ghost use Rattle.palm_text.specs.Counted.{Writes};
 ghost use Rattle.palm_text.specs.Output.{Puts, output};
 ghost use Rattle.store_commands.specs.Databases.{database_count_line, first_words, kind_word, last_words, listed_row_end, listed_row_line, listed_row, listed_rows, rows_text};
-ghost use Rattle.store_commands.specs.DatabaseForms.{EndsDatabases, rows_in};
+ghost use Rattle.store_commands.specs.DatabaseForms.{EndsDatabases, rows_in_form};
 ghost use Rattle.heap_model.specs.Database as databases;
 
 use crate::databases_json::put_document;
@@ -208,7 +208,7 @@ pub fn put_databases<W: Write>(
     form: Form,
     rows: &[Row],
 ) -> Result<(), WriteFault>
-    ensures { Writes W.contents out.old out.new (rows_in form rows.now) (is_ok result) }
+    ensures { Writes W.contents out.old out.new (rows_in_form form rows.now) (is_ok result) }
 {
     match form {
         Form::Text => put_lines(out, rows),
@@ -219,7 +219,7 @@ pub fn put_databases<W: Write>(
 /// The same, and flushes.
 #[tactic(auto, using(palm_text::proofs::Parts::then_flush))]
 fn put_flushed<W: Write>(out: &mut Counted<W>, form: Form, rows: &[Row]) -> Result<(), WriteFault>
-    ensures { Puts W.contents out.old out.new (rows_in form rows.now) (is_ok result) }
+    ensures { Puts W.contents out.old out.new (rows_in_form form rows.now) (is_ok result) }
 {
     put_databases(out, form, rows)?;
     flushed(out)

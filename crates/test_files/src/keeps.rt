@@ -10,25 +10,25 @@ use std::str;
 use std::test::*;
 use test_support::{Narrow, ORDER_FILE, RefusesOne, WhenFull, bytes_of, equal, holds};
 
-const IDS: Keep = Keep {
+const KEEPS_IDS: Keep = Keep {
     ids: true,
     filler: false,
     order: false,
 };
 
-const FILLER: Keep = Keep {
+const KEEPS_FILLER: Keep = Keep {
     ids: false,
     filler: true,
     order: false,
 };
 
-const ORDER: Keep = Keep {
+const KEEPS_ORDER: Keep = Keep {
     ids: false,
     filler: false,
     order: true,
 };
 
-const ALL: Keep = Keep {
+const KEEPS_ALL: Keep = Keep {
     ids: true,
     filler: true,
     order: true,
@@ -41,28 +41,28 @@ const FILLED_FILE: &str = "4d656d6f4442 00*26 0000 0000 e72ea9db 00*20 44415441 
 /// What is kept, a file, the new file, and the lines with its size and its changes.
 static KEPT: [(Keep, &str, &str, &str); 10] = [
     (
-        IDS,
+        KEEPS_IDS,
         ORDER_FILE,
         "4f72646572 00*27 0000 0000 00*24 44415441 54657374 00000000 00000000 0003 \
             00000068 00 000000 00000068 03 000005 0000006c 00 000005 0000 42424242 43434343",
         "ok 112\nchanges busy order\n",
     ),
     (
-        FILLER,
+        KEEPS_FILLER,
         ORDER_FILE,
         "4f72646572 00*27 0000 0000 00*24 44415441 54657374 00000002 00000000 0003 \
             00000068 00 000001 00000068 03 000005 0000006c 00 000002 0000 42424242 43434343",
         "ok 112\nchanges busy ids order\n",
     ),
     (
-        ORDER,
+        KEEPS_ORDER,
         ORDER_FILE,
         "4f72646572 00*27 0000 0000 00*24 44415441 54657374 00000002 00000000 0003 \
             0000006c 00 000001 00000068 03 000005 0000006c 00 000002 0000 42424242 43434343",
         "ok 112\nchanges busy ids\n",
     ),
     (
-        ALL,
+        KEEPS_ALL,
         ORDER_FILE,
         "4f72646572 00*27 0000 0000 00*24 44415441 54657374 00000000 00000000 0003 \
             0000006c 00 000000 00000068 03 000005 0000006c 00 000005 0000 42424242 43434343",
@@ -70,7 +70,7 @@ static KEPT: [(Keep, &str, &str, &str); 10] = [
     ),
     // AppInfo is empty, and last in the file
     (
-        ORDER,
+        KEEPS_ORDER,
         MIXED_FILE,
         "2251220a 00*28 8042 0102 ffffffff 00015180 7c25b080 00000007 \
             00000065 00000063 61001f62 7e7e7e7e 01020305 00000000 0002 \
@@ -78,17 +78,17 @@ static KEPT: [(Keep, &str, &str, &str); 10] = [
         "ok 101\nchanges busy ids\n",
     ),
     (
-        IDS,
+        KEEPS_IDS,
         MIXED_FILE,
         "2251220a 00*28 8042 0102 ffffffff 00015180 7c25b080 00000007 \
             00000060 00000060 61001f62 7e7e7e7e 01020304 00000000 0002 \
             00000000 8f ffffff 00000062 00 000000 0000 4449 4142 43",
         "ok 101\nchanges busy order\n",
     ),
-    (FILLER, FILLED_FILE, FILLED_FILE, "ok 99\ncanonical\n"),
-    (ALL, FILLED_FILE, FILLED_FILE, "ok 99\ncanonical\n"),
-    (IDS, FILLED_FILE, MEMO_FILE, "ok 97\nchanges filler\n"),
-    (ORDER, MEMO_FILE, MEMO_FILE, "ok 97\ncanonical\n"),
+    (KEEPS_FILLER, FILLED_FILE, FILLED_FILE, "ok 99\ncanonical\n"),
+    (KEEPS_ALL, FILLED_FILE, FILLED_FILE, "ok 99\ncanonical\n"),
+    (KEEPS_IDS, FILLED_FILE, MEMO_FILE, "ok 97\nchanges filler\n"),
+    (KEEPS_ORDER, MEMO_FILE, MEMO_FILE, "ok 97\ncanonical\n"),
 ];
 
 #[test]
@@ -145,7 +145,7 @@ fn a_fault_comes_first(rt: HostRuntime) -> Result<(), Fail> {
     }
     let mut new = Counted::new(Vec::new(rt.alloc()));
     let mut out = Counted::new(Vec::new(rt.alloc()));
-    let status = cmd_keep_from(&rt.alloc(), &file, ALL, &mut new, &mut out);
+    let status = cmd_keep_from(&rt.alloc(), &file, KEEPS_ALL, &mut new, &mut out);
     equal("fault", status, Status::Refused)?;
     equal("fault", new.into_inner().len(), 0)?;
     equal(
@@ -165,7 +165,7 @@ fn refused_memory_keeps_nothing(rt: HostRuntime) -> Result<(), Fail> {
         let memory = RefusesOne::behind(rt.alloc(), granted);
         let mut new = Counted::new(Vec::new(rt.alloc()));
         let mut out = Counted::new(Vec::new(rt.alloc()));
-        let status = cmd_keep_from(&memory, &file, ORDER, &mut new, &mut out);
+        let status = cmd_keep_from(&memory, &file, KEEPS_ORDER, &mut new, &mut out);
         if !memory.has_refused() {
             holds(granted, granted > 3)?;
             return equal(granted, status, Status::Done);
@@ -187,7 +187,7 @@ fn a_full_writer_gets_a_prefix_of_a_kept_file(rt: HostRuntime) -> Result<(), Fai
     for room in 0..101 {
         let mut new = Counted::new(Narrow::new(rt.alloc(), room, 7, WhenFull::TakesNothing));
         let mut out = Counted::new(Vec::new(rt.alloc()));
-        let status = cmd_keep_from(&rt.alloc(), &file, ORDER, &mut new, &mut out);
+        let status = cmd_keep_from(&rt.alloc(), &file, KEEPS_ORDER, &mut new, &mut out);
         equal(room, status, Status::WriteFault)?;
         holds(room, new.into_inner().is_cut_at(room))?;
         equal(room, out.into_inner().len(), 0)?;

@@ -16,7 +16,7 @@ use std::test::*;
 use test_support::{bytes_of, equal, holds};
 
 /// The size of a file of which not all bytes are read.
-const SIZE: usize = READ_FIRST + 500;
+const FILE_SIZE: usize = READ_FIRST + 500;
 
 /// A file in memory. One read gives at most `most` bytes. After `good` reads, a read fails.
 #[derive(Drop)]
@@ -54,20 +54,20 @@ static PLACES: [usize; 9] = [
     MOST_START - 1,
     MOST_START,
     READ_FIRST,
-    SIZE - 276,
-    SIZE - 100,
-    SIZE,
-    SIZE + 1,
+    FILE_SIZE - 276,
+    FILE_SIZE - 100,
+    FILE_SIZE,
+    FILE_SIZE + 1,
 ];
 
-/// A file of `SIZE` bytes with categories, whose AppInfo begins at an offset.
+/// A file of `FILE_SIZE` bytes with categories, whose AppInfo begins at an offset.
 fn long_file(alloc: Global, at: usize) -> Result<Vec<u8>, Fail> {
     let mut file = bytes_of(alloc, NAMED_FILE)?;
     let app = match file.get(112..388) {
         Some(app) => Vec::from_slice(alloc, app)?,
         None => return Err("a file that is too short")?,
     };
-    file.resize(SIZE, 0)?;
+    file.resize(FILE_SIZE, 0)?;
     let Ok(place) = u32::try_from(at) else {
         return Err("an offset that is too great")?;
     };
@@ -108,7 +108,7 @@ fn start_of(alloc: Global, bytes: Vec<u8>, most: usize) -> Result<ReadStart, Fai
         most,
         good: usize::MAX,
     };
-    match read_start(&alloc, &mut file, SIZE) {
+    match read_start(&alloc, &mut file, FILE_SIZE) {
         Ok(start) => Ok(start),
         Err(fault) => Err(Fail::new(format_args!("{fault:?}"))),
     }
@@ -133,7 +133,12 @@ fn check_start(alloc: Global, at: usize, report: Report) -> Result<(), Fail> {
 }
 
 /// Other sizes than that of the file.
-static OTHERS: [usize; 4] = [READ_FIRST, SIZE - 1, SIZE + 1, SIZE + 1_000_000];
+static OTHERS: [usize; 4] = [
+    READ_FIRST,
+    FILE_SIZE - 1,
+    FILE_SIZE + 1,
+    FILE_SIZE + 1_000_000,
+];
 
 #[test]
 fn another_size_is_found(rt: HostRuntime) -> Result<(), Fail> {
@@ -162,7 +167,7 @@ fn reads_that_fail(rt: HostRuntime) -> Result<(), Fail> {
             most: 400_000,
             good,
         };
-        let is_read = match read_start(&rt.alloc(), &mut file, SIZE) {
+        let is_read = match read_start(&rt.alloc(), &mut file, FILE_SIZE) {
             Ok(_) => true,
             Err(SizedFault::Input(InputFault::Open(_))) => false,
             Err(fault) => return Err(Fail::new(format_args!("{fault:?}"))),

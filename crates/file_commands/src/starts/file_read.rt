@@ -1,7 +1,7 @@
 //! A file that was read: all of its bytes, or the first ones.
 
 ghost use Rattle.pdb_format.specs.FileStarts.{IsFileStart};
-ghost use Rattle.file_commands.specs.FilesRead.{bytes_read};
+ghost use Rattle.file_commands.specs.FilesRead.{bytes_of_read};
 
 use crate::starts::file_start::{ReadStart, know_numbers};
 use heap_model::Bytes;
@@ -15,7 +15,7 @@ pub enum FileRead {
 }
 
 impl FileBytes for FileRead {
-    ghost bytes = { λ file. bytes_read file };
+    ghost bytes = { λ file. bytes_of_read file };
 
     fn size(&self) -> usize {
         match self {

@@ -4,7 +4,7 @@ ghost use Rattle.std.specs.Prelude.{◌≡◌, ◌≢◌, ◌+◌, ◌-◌, ◌<
 ghost use Rattle.heap_model.specs.Bytes.{AreBytes, u32_at};
 ghost use Rattle.heap_model.specs.DatabaseFields.{app_info_at};
 ghost use Rattle.pdb_format.specs.FileStarts.{most_app, most_start};
-ghost use Rattle.file_commands.specs.Starts.{BeginsWith, FailsBy, IsPart, IsSplit};
+ghost use Rattle.file_commands.specs.Starts.{BeginsWith, FailsBy, IsPartOfFile, IsSplit};
 
 use crate::starts::parts::{check_size, read_part};
 use crate::starts::reads_at::ReadsAt;
@@ -170,7 +170,7 @@ fn read_app<A: Allowance, F: ReadsAt>(
     ensures same { F.bytes file.new ≡ F.bytes file.old }
     ensures len { IfOk result (λ app. length app.items ≡ min (size - at) most_app) }
     ensures part { IfOk result (λ app.
-        IsPart (F.bytes file.old) at (min (size - at) most_app) app.items) }
+        IsPartOfFile (F.bytes file.old) at (min (size - at) most_app) app.items) }
     ensures size { result ≡ Err SizedFault.OtherSize
         → IfSome (F.bytes file.old) (λ all. length all - at < min (size - at) most_app) }
     ensures no_memory { result ≡ Err (SizedFault.Input InputFault.Memory) → A.is_short memory.now }

@@ -2,7 +2,7 @@
 
 ghost use Rattle.std.specs.Prelude.{◌≡◌, ◌≢◌, ◌<◌, ◌≤◌, ◌⊎◌, None, Some, Ok, Err, IfOk, IfErr, IfSome, codes, length};
 ghost use Rattle.pdb_format.specs.Opened.{most_file_bytes};
-ghost use Rattle.file_commands.specs.FilesRead.{bytes_read};
+ghost use Rattle.file_commands.specs.FilesRead.{bytes_of_read};
 
 use crate::starts::file_read::FileRead;
 use crate::starts::file_start::{ReadStart, read_start};
@@ -28,7 +28,7 @@ pub fn read_listed<R: Files + Input + Eprint + AllocGlobal>(
     rt: &R,
     path: &str,
 ) -> Result<FileRead, Status>
-    ensures limit { IfOk result (λ file. length (bytes_read file) ≤ most_file_bytes) }
+    ensures limit { IfOk result (λ file. length (bytes_of_read file) ≤ most_file_bytes) }
     ensures faults { IfErr result (λ status. (status ≡ Status.ReadFault) ⊎ (status ≡ Status.NoMemory)) }
 {
     match read_long(rt, path) {

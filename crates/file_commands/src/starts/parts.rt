@@ -2,7 +2,7 @@
 
 ghost use Rattle.std.specs.Prelude.{◌≡◌, ◌≢◌, ◌+◌, ◌-◌, ◌<◌, ◌≤◌, ◌^◌, Ok, Err, true, false, IfOk, IfErr, OnOk, IfSome, length, take};
 ghost use Rattle.std.specs.Io.{ReadsAtMost};
-ghost use Rattle.file_commands.specs.Starts.{FailsBy, IsPart};
+ghost use Rattle.file_commands.specs.Starts.{FailsBy, IsPartOfFile};
 
 use crate::starts::reads_at::ReadsAt;
 use allowance::{Allowance, zeros};
@@ -23,7 +23,7 @@ pub(crate) fn fill_at<F: ReadsAt>(
     ensures same { F.bytes file.new ≡ F.bytes file.old }
     ensures bound { ReadsAtMost result buffer.new }
     ensures part { IfOk result (λ n.
-        IsPart (F.bytes file.old) offset (length buffer.new) (take n buffer.new)) }
+        IsPartOfFile (F.bytes file.old) offset (length buffer.new) (take n buffer.new)) }
     ensures fails { IfErr result F.fails }
     ensures memory { result ≢ Err InputFault.Memory }
 {
@@ -43,14 +43,14 @@ fn fill_more<F: ReadsAt>(
 ) -> Result<bool, InputFault>
     requires room { offset + length buffer.old < 2 ^ 64 }
     requires inside { at.old ≤ length buffer.old }
-    requires part { IsPart (F.bytes file.old) offset at.old (take at.old buffer.old) }
+    requires part { IsPartOfFile (F.bytes file.old) offset at.old (take at.old buffer.old) }
     ensures same { F.bytes file.new ≡ F.bytes file.old }
     ensures len { length buffer.new ≡ length buffer.old }
     ensures inside { OnOk result (at.new ≤ length buffer.new) }
-    ensures part { OnOk result (IsPart (F.bytes file.old) offset at.new (take at.new buffer.new)) }
+    ensures part { OnOk result (IsPartOfFile (F.bytes file.old) offset at.new (take at.new buffer.new)) }
     ensures more { result ≡ Ok true → at.old < at.new }
     ensures end { result ≡ Ok false
-        → IsPart (F.bytes file.old) offset (length buffer.new) (take at.new buffer.new) }
+        → IsPartOfFile (F.bytes file.old) offset (length buffer.new) (take at.new buffer.new) }
     ensures fails { IfErr result F.fails }
     ensures memory { result ≢ Err InputFault.Memory }
 {
@@ -77,7 +77,7 @@ pub(crate) fn read_part<A: Allowance, F: ReadsAt>(
     requires { offset + count < 2 ^ 64 }
     ensures same { F.bytes file.new ≡ F.bytes file.old }
     ensures len { IfOk result (λ part. length part.items ≡ count) }
-    ensures part { IfOk result (λ part. IsPart (F.bytes file.old) offset count part.items) }
+    ensures part { IfOk result (λ part. IsPartOfFile (F.bytes file.old) offset count part.items) }
     ensures size { result ≡ Err SizedFault.OtherSize
         → IfSome (F.bytes file.old) (λ all. length all - offset < count) }
     ensures no_memory { result ≡ Err (SizedFault.Input InputFault.Memory) → A.is_short memory.now }

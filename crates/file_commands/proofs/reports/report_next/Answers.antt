@@ -1,5 +1,5 @@
 use Rattle.std.proofs.Common.{List, ℕ, Option, subst, inl, inr}
-use Rattle.file_commands.specs.FilesRead.{bytes_read}
+use Rattle.file_commands.specs.FilesRead.{bytes_of_read}
 use Rattle.palm_text.specs.Output.{output}
 use Rattle.file_commands.specs.Reports.{EndsReport}
 use Rattle.file_commands.proofs.Reported.{not_read, reported}
@@ -15,7 +15,7 @@ returns-in-Err-clause-ends g c =
 
 pub returns-clause-ends : goal.returns-clause-ends
 returns-clause-ends g c =
-    let file = bytes_read c.in-Ok.file in
+    let file = bytes_of_read c.in-Ok.file in
     reported (g.I.Inputs.gives c.args.inputs.now) (g.A.Allowance.is_short c.args.memory.now) c.args.asked.report c.args.asked.named c.args.path.now g.V.Write.contents file c.args.out.now c.cmd_report_from-status.new.out c.cmd_report_from-status.result
     c.in-Ok.ensures.gives c.cmd_report_from-status.ensures.short
     (subst (λ (shown : Option (List ℕ)). EndsReport c.args.asked.report shown file (output g.V.Write.contents c.args.out.now c.cmd_report_from-status.new.out) c.cmd_report_from-status.result) c.path_if-shown.ensures c.cmd_report_from-status.ensures.ends)

@@ -2,7 +2,7 @@ use Rattle.std.proofs.Common.{rules, ◌≡◌, ◌-◌, ℕ, Option, List, leng
 use Rattle.heap_model.specs.Bytes.{AreBytes, u32_at}
 use Rattle.heap_model.specs.DatabaseFields.{app_info_at}
 use Rattle.pdb_format.specs.FileStarts.{most_app, most_start}
-use Rattle.file_commands.specs.Starts.{BeginsWith, IsPart}
+use Rattle.file_commands.specs.Starts.{BeginsWith, IsPartOfFile}
 use Rattle.file_commands.proofs.Splits.{split_after}
 use Rattle.file_commands.proofs.starts.file_start.with_app_after.Goals as goal
 
@@ -19,9 +19,9 @@ of-requires g c κs within =
     let numbers : AreBytes start = subst AreBytes c.deref-2.ensures.value c.know_numbers.ensures in
     let app_numbers : AreBytes app = subst AreBytes c.deref-3.ensures.value c.know_numbers-2.ensures in
     let count : length app ≡ min (c.args.size - at) most_app = c.in_ok-app.ensures.len in
-    let part : IsPart (g.F.ReadsAt.bytes c.args.file.now) at (min (c.args.size - at) most_app) app = c.in_ok-app.ensures.part in (
+    let part : IsPartOfFile (g.F.ReadsAt.bytes c.args.file.now) at (min (c.args.size - at) most_app) app = c.in_ok-app.ensures.part in (
       within,
       split_after file first start app c.args.size at c.requires.len c.requires.long c.requires.short c.requires.after cut place numbers app_numbers
           (subst (λ (f : Option (List ℕ)). BeginsWith f first c.args.size) same c.requires.begins) count
-          (subst (λ (f : Option (List ℕ)). IsPart f at (min (c.args.size - at) most_app) app) same part),
+          (subst (λ (f : Option (List ℕ)). IsPartOfFile f at (min (c.args.size - at) most_app) app) same part),
     )
