@@ -1,22 +1,9 @@
 -- What calls leave of the chunk of a database, one after the other.
-use Rattle.std.proofs.Common.{◌≡◌, ◌≢◌, ℕ, ◌+◌, ◌<◌, ◌≤◌, List, length, Option, Some, None, refl, sym, ap, subst, ◌∙◌, arith, inl, inr}
-use Rattle.std.proofs.lemmas.Bool.{cases_eq, eq-eqb, ne_eqb}
-use Rattle.std.specs.Prelude.{◌==◌}
+use Rattle.database_edits.proofs.Words.{◌≡◌, ◌≢◌, ℕ, ◌+◌, ◌<◌, ◌≤◌, List, length, Option, Some, None, refl, sym, ap, subst, ◌∙◌, arith, inl, inr, cases_eq, eq-eqb, ne_eqb, ◌==◌, managers_owner, overwritten, sized_to, LiveChunk, ChunkMap, held, changed, changed_at, put, sized, bytes_of, owner_of, bytes_under, owner_under, Database, spelled, Leaves, Respells, rewritten, length-overwritten, IsMovable, IsManagers, Rebodies}
 use Rattle.std.specs.Option.{is_some}
-use Rattle.heap_model.specs.Chunk.{managers_owner}
-use Rattle.heap_model.specs.Bytes.{overwritten, sized_to}
-use Rattle.heap_model.specs.Meaning.{LiveChunk, ChunkMap}
-use Rattle.heap_model.specs.Reading.{held}
-use Rattle.heap_model.specs.Maps.{changed, changed_at, put, sized}
-use Rattle.heap_model.specs.Store.{bytes_of, owner_of, bytes_under, owner_under}
-use Rattle.heap_model.specs.Database.{Database, spelled}
-use Rattle.heap_model.specs.Leaving.{Leaves, Respells, rewritten}
 use Rattle.laws_heap.proofs.Tests.{cond-true, cond-false, same_some}
-use Rattle.laws_heap.proofs.Frames.{length-overwritten}
 use Rattle.laws_heap.proofs.SameLayouts.{same_frame, frame_then}
 use Rattle.laws_store.proofs.NewDatabases.{managers_loose}
-use Rattle.mem_manager.specs.Lookup.{IsMovable}
-use Rattle.database_edits.specs.Managers.{IsManagers, Rebodies}
 
 -- ---- the chunk
 

@@ -1,18 +1,6 @@
 -- An entry moved: those past which it moves slide by one, and it is written on the other side of
 -- them.
-use Rattle.std.proofs.Common.{◌≡◌, ℕ, suc, ◌+◌, ◌-◌, ◌<◌, ◌≤◌, Bool, List, ◌∷◌, ◌++◌, length, get_or, take, drop, refl, sym, ap, subst, ◌∙◌, arith, drop-cons, length-take}
-use Rattle.std.proofs.lemmas.List.{take-append-drop}
-use Rattle.std.specs.Prelude.{All, slice_range}
-use Rattle.std.specs.List.{flat_map}
-use Rattle.heap_model.specs.Bytes.{overwritten}
-use Rattle.heap_model.specs.Lists.{moved}
-use Rattle.heap_model.specs.Database.{Entry, a_record, Database, has_resources, header_bytes, entry_bytes, EntryFits, IsSpelled, spelled, entry_offset, entry_in}
-use Rattle.heap_model.specs.Leaving.{SpellsHere, Leaves, rewritten, database_here}
-use Rattle.heap_model.specs.Store.{bytes_under}
-use Rattle.heap_model.specs.Reading.{held}
-use Rattle.laws_store.proofs.MovedElements.{length-moved}
-use Rattle.laws_store.proofs.Spellings.{length-header_bytes, entry_read}
-use Rattle.database_edits.specs.Managers.{Rebodies}
+use Rattle.database_edits.proofs.Words.{◌≡◌, ℕ, suc, ◌+◌, ◌-◌, ◌<◌, ◌≤◌, Bool, List, ◌∷◌, ◌++◌, length, get_or, take, drop, refl, sym, ap, subst, ◌∙◌, arith, drop-cons, length-take, take-append-drop, All, slice_range, flat_map, overwritten, moved, Entry, a_record, Database, has_resources, header_bytes, entry_bytes, EntryFits, IsSpelled, spelled, entry_offset, entry_in, SpellsHere, Leaves, rewritten, database_here, bytes_under, held, length-moved, length-header_bytes, entry_read, Rebodies}
 use Rattle.database_edits.proofs.Chunks.{leaves_as, through, unchanged}
 use Rattle.database_edits.proofs.Databases.{managers}
 use Rattle.database_edits.proofs.MovedEntries.{bytes_of, moved_back, moved_front, moved_nowhere, crossed_back, crossed_front, cut_back, cut_front}

@@ -1,13 +1,6 @@
 -- The database that a chunk spells, and the bytes of its parts.
-use Rattle.std.proofs.Common.{◌≡◌, ℕ, ◌≤◌, List, length, ap, ◌∙◌, arith}
-use Rattle.heap_model.specs.DatabaseFields.{header_size}
-use Rattle.heap_model.specs.Database.{Database, has_resources, DatabaseFits, HasShape, entry_offset, resources_in}
-use Rattle.heap_model.specs.Leaving.{SpellsHere, database_here}
-use Rattle.heap_model.specs.Store.{bytes_under}
+use Rattle.database_edits.proofs.Words.{◌≡◌, ℕ, ◌≤◌, List, length, ap, ◌∙◌, arith, header_size, Database, has_resources, DatabaseFits, HasShape, entry_offset, resources_in, SpellsHere, database_here, bytes_under, length-spelled, resources_read, IsManagers, counted}
 use Rattle.laws_store.proofs.Shapes.{spelled_shape}
-use Rattle.laws_store.proofs.Spellings.{length-spelled, resources_read}
-use Rattle.database_edits.specs.Managers.{IsManagers}
-use Rattle.database_edits.specs.Edits.{counted}
 
 pub managers : (image : List ℕ) (db : ℕ) → SpellsHere image db → IsManagers image db
 managers image db s = record { heap = s.heap; owner = s.owner }

@@ -1,18 +1,6 @@
 -- Where entries stand in the bytes of a database, and one that is written in place of another.
-use Rattle.std.proofs.Common.{◌≡◌, ℕ, ◌+◌, ◌-◌, ◌<◌, ◌≤◌, Bool, true, false, List, ◌++◌, length, take, drop, refl, sym, ap, subst, ◌∙◌, arith, length-take}
-use Rattle.std.proofs.lemmas.List.{append-nil, take-append-drop}
-use Rattle.std.specs.Prelude.{slice_range}
-use Rattle.heap_model.specs.Bytes.{overwritten, u16_bytes, u24_bytes, u32_bytes}
-use Rattle.heap_model.specs.DatabaseFields.{entry_size}
-use Rattle.heap_model.specs.Database.{Entry, has_resources, entry_bytes, spelled, entry_offset}
-use Rattle.heap_model.specs.Leaving.{SpellsHere, Leaves, rewritten, database_here}
-use Rattle.heap_model.specs.Store.{bytes_under}
-use Rattle.heap_model.specs.Reading.{held}
-use Rattle.db_format.specs.declared.db_entry.DbEntry.{DbEntry}
+use Rattle.database_edits.proofs.Words.{◌≡◌, ℕ, ◌+◌, ◌-◌, ◌<◌, ◌≤◌, Bool, true, false, List, ◌++◌, length, take, drop, refl, sym, ap, subst, ◌∙◌, arith, length-take, append-nil, take-append-drop, slice_range, overwritten, u16_bytes, u24_bytes, u32_bytes, entry_size, Entry, has_resources, entry_bytes, spelled, entry_offset, SpellsHere, Leaves, rewritten, database_here, bytes_under, held, DbEntry, entry_of, is_resource, with_entry, WritesEntry, Rebodies}
 use Rattle.db_format.specs.declared.db_entry.DbEntry.TheVariants.{Record, Resource}
-use Rattle.db_format.specs.EitherEntry.{entry_of, is_resource}
-use Rattle.db_format.specs.Entries.{with_entry, WritesEntry}
-use Rattle.database_edits.specs.Managers.{Rebodies}
 use Rattle.database_edits.proofs.Chunks.{leaves_as}
 use Rattle.database_edits.proofs.Databases.{long}
 

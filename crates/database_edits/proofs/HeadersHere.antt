@@ -1,19 +1,6 @@
 -- The header of a database in the bytes under a slot: read, kept, and written field by field.
-use Rattle.std.proofs.Common.{◌≡◌, ℕ, ◌+◌, ◌-◌, ◌≤◌, List, [], ◌++◌, length, take, drop, replicate, refl, sym, ap, subst, ◌∙◌, append_assoc, arith, length-append, length-take}
-use Rattle.std.proofs.lemmas.List.{take-append-le, take-take, take_at}
-use Rattle.heap_model.specs.Bytes.{overwritten, sized_to, u32_at}
-use Rattle.heap_model.specs.Database.{Database, IsDatabaseName, header_bytes, spelled, resources_in, header_in, database_in}
-use Rattle.heap_model.specs.Leaving.{SpellsHere, Leaves, database_here}
-use Rattle.heap_model.specs.Maps.{put}
-use Rattle.heap_model.specs.Reading.{held}
-use Rattle.heap_model.specs.Store.{bytes_under}
-use Rattle.laws_heap.proofs.Frames.{length-overwritten}
+use Rattle.database_edits.proofs.Words.{◌≡◌, ℕ, ◌+◌, ◌-◌, ◌≤◌, List, [], ◌++◌, length, take, drop, replicate, refl, sym, ap, subst, ◌∙◌, append_assoc, arith, length-append, length-take, take-append-le, take-take, take_at, overwritten, sized_to, u32_at, Database, IsDatabaseName, header_bytes, spelled, resources_in, header_in, database_in, SpellsHere, Leaves, database_here, put, held, bytes_under, length-overwritten, length-header_bytes, StandsAs, WritesField, over_piece, header_over, IsManagers, Rebodies, HasHeaderOf, PutsHeader}
 use Rattle.laws_heap.proofs.Resizings.{length-sized_to}
-use Rattle.laws_store.proofs.Spellings.{length-header_bytes}
-use Rattle.mem_manager.specs.Lookup.{StandsAs}
-use Rattle.db_format.specs.Headers.{WritesField}
-use Rattle.db_format.proofs.FieldLaws.{over_piece, header_over}
-use Rattle.database_edits.specs.Managers.{IsManagers, Rebodies, HasHeaderOf, PutsHeader}
 use Rattle.database_edits.specs.declared.headers.Heading.{Heading}
 use Rattle.database_edits.specs.Headings.{IsHeading}
 use Rattle.database_edits.specs.Opened.{IsOpenHere, HasHeaderRoom}

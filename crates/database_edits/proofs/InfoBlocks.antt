@@ -1,16 +1,8 @@
 -- The slot of an info block, written in a header.
-use Rattle.std.proofs.Common.{◌≡◌, ℕ, ◌+◌, ◌≤◌, ◌<◌, ◌^◌, List, length, refl, sym, ap, subst, ◌∙◌, arith}
-use Rattle.heap_model.specs.Bytes.{overwritten}
-use Rattle.heap_model.specs.Database.{DatabaseHeader, Database, header_bytes, spelled, DatabaseFits}
+use Rattle.database_edits.proofs.Words.{◌≡◌, ℕ, ◌+◌, ◌≤◌, ◌<◌, ◌^◌, List, length, refl, sym, ap, subst, ◌∙◌, arith, overwritten, DatabaseHeader, Database, header_bytes, spelled, DatabaseFits, SpellsHere, database_here, next_modification, spelled_header, HasModificationNumber, HasInfoBlock, info_block_at, Rebodies, PutsHeader, counted, with_block}
 use Rattle.heap_model.specs.DatabaseSteps.{with_info_block}
-use Rattle.heap_model.specs.Leaving.{SpellsHere, database_here}
-use Rattle.heap_model.specs.StoreWords.{next_modification}
 use Rattle.heap_model.specs.declared.names.Which.{Which}
 use Rattle.heap_model.specs.declared.names.Which.TheVariants.{App, Sort}
-use Rattle.laws_store.proofs.Edits.{spelled_header}
-use Rattle.db_format.specs.Headers.{HasModificationNumber, HasInfoBlock, info_block_at}
-use Rattle.database_edits.specs.Managers.{Rebodies, PutsHeader}
-use Rattle.database_edits.specs.Edits.{counted, with_block}
 use Rattle.database_edits.proofs.Databases.{managers, counted_fits}
 use Rattle.database_edits.proofs.HeadersHere.{heading_spelled, header_put, header_put_twice}
 use Rattle.database_edits.proofs.RaisedNumbers.{number_put}

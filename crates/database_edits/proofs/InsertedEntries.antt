@@ -1,24 +1,6 @@
 -- An entry put in: the chunk grows, those from there on slide after it, and the header counts one
 -- more.
-use Rattle.std.proofs.Common.{◌≡◌, ℕ, ◌+◌, ◌≤◌, Bool, List, ◌++◌, length, drop, refl, sym, ap, subst, ◌∙◌, arith}
-use Rattle.std.proofs.lemmas.List.Edits.{length-insert}
-use Rattle.std.specs.Prelude.{insert, slice_range}
-use Rattle.heap_model.specs.Bytes.{overwritten, sized_to}
-use Rattle.heap_model.specs.Chunk.{need}
-use Rattle.heap_model.specs.DatabaseFields.{entry_size}
-use Rattle.heap_model.specs.Database.{Entry, a_record, a_resource, Database, IsDatabaseName, has_resources, header_bytes, entry_bytes, spelled, IsSpelled, entry_offset}
-use Rattle.heap_model.specs.Leaving.{SpellsHere, Respells, database_here}
-use Rattle.heap_model.specs.Space.{ShortFor}
-use Rattle.heap_model.specs.Store.{bytes_under}
-use Rattle.heap_model.specs.StoreWords.{next_modification}
-use Rattle.heap_model.specs.EntrySteps.{seeded_by, with_entry_at}
-use Rattle.laws_store.proofs.Edits.{spelled_insert}
-use Rattle.laws_store.proofs.Spellings.{length-header_bytes}
-use Rattle.db_format.specs.declared.db_entry.DbEntry.{DbEntry}
-use Rattle.db_format.specs.EitherEntry.{entry_of, is_resource}
-use Rattle.db_format.specs.Headers.{HasModificationNumber, HasSeed, HasEntryCount}
-use Rattle.database_edits.specs.Managers.{IsManagers, Rebodies, HasHeaderOf, PutsHeader}
-use Rattle.database_edits.specs.Edits.{counted, entry_inserted}
+use Rattle.database_edits.proofs.Words.{◌≡◌, ℕ, ◌+◌, ◌≤◌, Bool, List, ◌++◌, length, drop, refl, sym, ap, subst, ◌∙◌, arith, length-insert, insert, slice_range, overwritten, sized_to, need, entry_size, Entry, a_record, a_resource, Database, IsDatabaseName, has_resources, header_bytes, entry_bytes, spelled, IsSpelled, entry_offset, SpellsHere, Respells, database_here, ShortFor, bytes_under, next_modification, seeded_by, with_entry_at, spelled_insert, length-header_bytes, DbEntry, entry_of, is_resource, HasModificationNumber, HasSeed, HasEntryCount, IsManagers, Rebodies, HasHeaderOf, PutsHeader, counted, entry_inserted}
 use Rattle.database_edits.proofs.Chunks.{leaves_as, through}
 use Rattle.database_edits.proofs.Databases.{managers, long}
 use Rattle.database_edits.proofs.Entries.{offset_next, offset_order, header_low, length-entry}

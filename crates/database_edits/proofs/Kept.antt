@@ -1,6 +1,5 @@
 -- What two edits after each other leave of the memory.
-use Rattle.std.proofs.Common.{ℕ, sym, ap, ◌∙◌}
-use Rattle.heap_model.specs.Memory.{Memory}
+use Rattle.database_edits.proofs.Words.{ℕ, sym, ap, ◌∙◌, Memory}
 use Rattle.laws_heap.proofs.KeptLoans.{keeps_then}
 use Rattle.laws_store.proofs.CallSteps.{kept_then}
 use Rattle.database_edits.specs.Kept.{OnlyWrites, OnlySlides}

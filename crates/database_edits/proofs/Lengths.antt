@@ -1,22 +1,11 @@
 -- The chunk of a database with another length: it may be refused to grow only for lack of room, and
 -- is never refused to shrink.
-use Rattle.std.proofs.Common.{◌≡◌, ℕ, ◌+◌, ◌<◌, ◌≤◌, List, length, Option, refl, sym, subst, arith, inl, inr}
-use Rattle.std.specs.Prelude.{Result, Ok, Err, OnOk, OnErr, IfErr, IsOk}
-use Rattle.heap_model.specs.Memory.{Memory}
-use Rattle.heap_model.specs.Bytes.{sized_to}
-use Rattle.heap_model.specs.Chunk.{need}
+use Rattle.database_edits.proofs.Words.{◌≡◌, ℕ, ◌+◌, ◌<◌, ◌≤◌, List, length, Option, refl, sym, subst, arith, inl, inr, Result, Ok, Err, OnOk, OnErr, IfErr, IsOk, Memory, sized_to, need, LiveChunk, held, free_behind, ShortFor, sized, bytes_under, Leaves, IsManagers, Rebodies}
 use Rattle.heap_model.specs.Lending.{IsLent}
-use Rattle.heap_model.specs.Meaning.{LiveChunk}
-use Rattle.heap_model.specs.Reading.{held}
-use Rattle.heap_model.specs.Space.{free_behind, ShortFor}
-use Rattle.heap_model.specs.Maps.{sized}
-use Rattle.heap_model.specs.Store.{bytes_under}
-use Rattle.heap_model.specs.Leaving.{Leaves}
 use Rattle.heap_model.specs.Refusals.{FirstBrings}
 use Rattle.heap_model.specs.MemorySteps.{Of, IsLocked, growth_checks}
 use Rattle.heap_model.specs.declared.refusal.Refusal.{Refusal}
 use Rattle.heap_model.specs.declared.refusal.Refusal.TheVariants.{NotEnoughSpace}
-use Rattle.database_edits.specs.Managers.{IsManagers, Rebodies}
 use Rattle.database_edits.proofs.Chunks.{under, resized}
 
 -- it is refused for lack of room

@@ -1,3 +1,4 @@
+pub mod Words
 pub mod InfoBlocks
 pub mod Chunks
 pub mod Databases
@@ -13,3 +14,4 @@ pub mod RaisedNumbers
 pub mod Recorded
 pub mod Loans
 pub mod Kept
+pub mod Laws

@@ -1,18 +1,6 @@
 -- An entry moved past others, as a list in pieces and in bytes.
-use Rattle.std.proofs.Common.{◌≡◌, ℕ, suc, ◌+◌, ◌-◌, ◌*◌, ◌<◌, ◌≤◌, Bool, true, false, List, [], ◌∷◌, ◌++◌, length, get_or, take, drop, refl, sym, ap, ◌∙◌, append_assoc, arith, inl, inr, drop-cons, length-append, length-take, length-drop}
-use Rattle.std.proofs.Math.Seq.{take-append_seam, drop-append_seam, drop-append-add, get_or-append_right}
-use Rattle.std.proofs.lemmas.List.{take-append-drop, drop-drop}
-use Rattle.std.proofs.lemmas.List.Elements.{All-nil, All-cons, All-head, All-tail}
+use Rattle.database_edits.proofs.Words.{◌≡◌, ℕ, suc, ◌+◌, ◌-◌, ◌*◌, ◌<◌, ◌≤◌, Bool, true, false, List, [], ◌∷◌, ◌++◌, length, get_or, take, drop, refl, sym, ap, ◌∙◌, append_assoc, arith, inl, inr, drop-cons, length-append, length-take, length-drop, take-append_seam, drop-append_seam, drop-append-add, get_or-append_right, take-append-drop, drop-drop, All-nil, All-cons, All-head, All-tail, cases_lt, All, insert, slice_range, flat_map, remove, overwritten, entry_size, Entry, entry_bytes, EntryFits, entry_offset, insertion_index, moved, insertion_behind, insertion_before, moved_is, length-entry_bytes, length-entries}
 use Rattle.std.proofs.lemmas.Grind.{flat_map-append}
-use Rattle.std.proofs.lemmas.Bool.{cases_lt}
-use Rattle.std.specs.Prelude.{All, insert, slice_range}
-use Rattle.std.specs.List.{flat_map, remove}
-use Rattle.heap_model.specs.Bytes.{overwritten}
-use Rattle.heap_model.specs.DatabaseFields.{entry_size}
-use Rattle.heap_model.specs.Database.{Entry, entry_bytes, EntryFits, entry_offset}
-use Rattle.heap_model.specs.Lists.{insertion_index, moved}
-use Rattle.laws_store.proofs.MovedElements.{insertion_behind, insertion_before, moved_is}
-use Rattle.laws_store.proofs.Spellings.{length-entry_bytes, length-entries}
 use Rattle.database_edits.proofs.Pieces.{piece_of, closes, opens}
 
 -- ---- lists

@@ -1,12 +1,7 @@
 -- Lists of bytes in pieces: one piece is written over another, and slides past others.
-use Rattle.std.proofs.Common.{◌≡◌, ℕ, ◌+◌, ◌-◌, ◌≤◌, List, [], ◌++◌, length, take, drop, replicate, refl, sym, ap, ◌∙◌, append_assoc, arith, length-append, length-take, length-drop}
-use Rattle.std.proofs.Math.Seq.{take-append_seam, drop-append-add}
-use Rattle.std.proofs.lemmas.List.{append-nil, take-append-drop, take_all, take_at, length-replicate}
-use Rattle.std.specs.Prelude.{slice_range}
-use Rattle.heap_model.specs.Bytes.{overwritten, sized_to}
+use Rattle.database_edits.proofs.Words.{◌≡◌, ℕ, ◌+◌, ◌-◌, ◌≤◌, List, [], ◌++◌, length, take, drop, replicate, refl, sym, ap, ◌∙◌, append_assoc, arith, length-append, length-take, length-drop, take-append_seam, drop-append-add, append-nil, take-append-drop, take_all, take_at, length-replicate, slice_range, overwritten, sized_to, over_piece}
 use Rattle.laws_store.proofs.Numbers.{take_both}
 use Rattle.laws_store.proofs.DroppedDatabases.{closed_up}
-use Rattle.db_format.proofs.FieldLaws.{over_piece}
 
 -- the piece between two others
 pub piece_of : (front piece back : List ℕ) (from end : ℕ) → from ≡ length front → end ≡ length front + length piece → slice_range (front ++ (piece ++ back)) from end ≡ piece

@@ -1,16 +1,5 @@
 -- The modification number raised, and what a chunk spells once it was written.
-use Rattle.std.proofs.Common.{◌≡◌, ℕ, Bool, true, false, List, refl, sym, ap, subst, ◌∙◌}
-use Rattle.heap_model.specs.Bytes.{overwritten}
-use Rattle.heap_model.specs.Database.{Entry, Database, header_bytes, spelled, DatabaseFits, IsSpelled}
-use Rattle.heap_model.specs.Leaving.{SpellsHere, Respells, database_here}
-use Rattle.heap_model.specs.StoreWords.{next_modification}
-use Rattle.heap_model.specs.Store.{bytes_under}
-use Rattle.laws_store.proofs.Edits.{spelled_header}
-use Rattle.laws_store.proofs.Spellings.{database_read}
-use Rattle.db_format.specs.Entries.{with_entry}
-use Rattle.db_format.specs.Headers.{HasModificationNumber}
-use Rattle.database_edits.specs.Managers.{Rebodies, HasHeaderOf, PutsHeader}
-use Rattle.database_edits.specs.Edits.{counted, counted_if, entry_written}
+use Rattle.database_edits.proofs.Words.{◌≡◌, ℕ, Bool, true, false, List, refl, sym, ap, subst, ◌∙◌, overwritten, Entry, Database, header_bytes, spelled, DatabaseFits, IsSpelled, SpellsHere, Respells, database_here, next_modification, bytes_under, spelled_header, database_read, with_entry, HasModificationNumber, Rebodies, HasHeaderOf, PutsHeader, counted, counted_if, entry_written}
 use Rattle.database_edits.proofs.Chunks.{through, respelled}
 use Rattle.database_edits.proofs.Databases.{managers, counted_fits}
 use Rattle.database_edits.proofs.HeadersHere.{heading_spelled}

@@ -1,21 +1,6 @@
 -- The bytes of records all of whose attributes are changed.
-use Rattle.std.proofs.Common.{◌≡◌, ℕ, ◌+◌, ◌-◌, ◌<◌, ◌≤◌, ◌^◌, Bool, false, List, [], ◌∷◌, ◌++◌, length, map, take, drop, refl, sym, ap, subst, ◌∙◌, arith, length-append}
-use Rattle.std.proofs.Math.Seq.{drop-append_seam}
-use Rattle.std.proofs.lemmas.List.{take_all, append-nil, length-map}
-use Rattle.std.proofs.lemmas.List.Elements.{All-head, All-tail}
-use Rattle.std.specs.Prelude.{All, slice_range}
-use Rattle.std.specs.List.{flat_map}
-use Rattle.heap_model.specs.Bytes.{overwritten, u16_bytes, u24_bytes, u32_bytes}
-use Rattle.heap_model.specs.Database.{Entry, a_record, a_resource, Database, has_resources, header_bytes, entry_bytes, spelled, EntryFits, DatabaseFits, entry_offset}
-use Rattle.heap_model.specs.EntrySteps.{with_attributes}
-use Rattle.heap_model.specs.Leaving.{SpellsHere, database_here}
-use Rattle.heap_model.specs.Store.{bytes_under}
-use Rattle.laws_store.proofs.Spellings.{length-header_bytes}
-use Rattle.db_format.proofs.FieldLaws.{over_piece}
-use Rattle.raw_region.specs.ByteChanges.{changed_every}
+use Rattle.database_edits.proofs.Words.{◌≡◌, ℕ, ◌+◌, ◌-◌, ◌<◌, ◌≤◌, ◌^◌, Bool, false, List, [], ◌∷◌, ◌++◌, length, map, take, drop, refl, sym, ap, subst, ◌∙◌, arith, length-append, drop-append_seam, take_all, append-nil, length-map, All-head, All-tail, All, slice_range, flat_map, overwritten, u16_bytes, u24_bytes, u32_bytes, Entry, a_record, a_resource, Database, has_resources, header_bytes, entry_bytes, spelled, EntryFits, DatabaseFits, entry_offset, with_attributes, SpellsHere, database_here, bytes_under, length-header_bytes, over_piece, changed_every, attributes_changed, HasKindHere}
 use Rattle.raw_region.proofs.ChangeLaws.{length-changed_every}
-use Rattle.database_edits.specs.Recorded.{attributes_changed}
-use Rattle.database_edits.specs.Edits.{HasKindHere}
 use Rattle.database_edits.proofs.Databases.{long}
 
 -- ---- the length

@@ -1,21 +1,6 @@
 -- An entry taken out: those after it slide over it, the header counts one less, and then the chunk
 -- shrinks.
-use Rattle.std.proofs.Common.{◌≡◌, ℕ, suc, ◌+◌, ◌-◌, ◌<◌, ◌≤◌, Bool, List, ◌++◌, length, drop, refl, sym, ap, ◌∙◌, arith}
-use Rattle.std.proofs.lemmas.List.Edits.{length-remove}
-use Rattle.std.specs.Prelude.{slice_range}
-use Rattle.std.specs.List.{remove}
-use Rattle.heap_model.specs.Bytes.{overwritten, sized_to}
-use Rattle.heap_model.specs.DatabaseFields.{entry_size}
-use Rattle.heap_model.specs.Database.{Database, IsDatabaseName, has_resources, header_bytes, spelled, IsSpelled, entry_offset}
-use Rattle.heap_model.specs.Leaving.{SpellsHere, Respells, database_here}
-use Rattle.heap_model.specs.Store.{bytes_under}
-use Rattle.heap_model.specs.StoreWords.{next_modification}
-use Rattle.laws_heap.proofs.Frames.{length-overwritten}
-use Rattle.laws_store.proofs.Edits.{spelled_remove}
-use Rattle.laws_store.proofs.Spellings.{length-header_bytes}
-use Rattle.db_format.specs.Headers.{HasEntryCount, HasModificationNumber}
-use Rattle.database_edits.specs.Managers.{IsManagers, Rebodies, HasHeaderOf, PutsHeader}
-use Rattle.database_edits.specs.Edits.{counted, entry_removed}
+use Rattle.database_edits.proofs.Words.{◌≡◌, ℕ, suc, ◌+◌, ◌-◌, ◌<◌, ◌≤◌, Bool, List, ◌++◌, length, drop, refl, sym, ap, ◌∙◌, arith, length-remove, slice_range, remove, overwritten, sized_to, entry_size, Database, IsDatabaseName, has_resources, header_bytes, spelled, IsSpelled, entry_offset, SpellsHere, Respells, database_here, bytes_under, next_modification, length-overwritten, spelled_remove, length-header_bytes, HasEntryCount, HasModificationNumber, IsManagers, Rebodies, HasHeaderOf, PutsHeader, counted, entry_removed}
 use Rattle.database_edits.proofs.Chunks.{leaves_as, through}
 use Rattle.database_edits.proofs.Databases.{managers, long}
 use Rattle.database_edits.proofs.Entries.{offset_next, offset_order, header_low}

@@ -1,21 +1,7 @@
 -- All records of a database with other attributes are a change of the store.
-use Rattle.std.proofs.Common.{◌≡◌, ◌≢◌, ℕ, Bool, true, false, List, [], ◌∷◌, map, refl, sym, ap, subst, ◌∙◌, arith}
-use Rattle.std.proofs.lemmas.List.{length-map}
-use Rattle.std.proofs.lemmas.List.Elements.{All-nil, All-cons, All-head, All-tail}
-use Rattle.std.specs.Prelude.{All}
+use Rattle.palm_store.proofs.Words.{◌≡◌, ◌≢◌, ℕ, Bool, true, false, List, [], ◌∷◌, map, refl, sym, ap, subst, ◌∙◌, arith, length-map, All-nil, All-cons, All-head, All-tail, All, times, Distinct, Entry, a_record, a_resource, Database, entry_data, has_resources, EntryFits, unique_id, Accepted, store_of, IsSound, NamesData, Respells, database_here, with_attributes, with_entries, resources_under, LeavesStore, Db, accepted_sound, kind_here, respell_steps, attributes_changed, HasNumber}
 use Rattle.std.specs.Prelude.{filter_map}
-use Rattle.heap_model.specs.Lists.{times, Distinct}
-use Rattle.heap_model.specs.Database.{Entry, a_record, a_resource, Database, entry_data, has_resources, EntryFits}
-use Rattle.heap_model.specs.Store.{unique_id, Accepted, store_of}
-use Rattle.heap_model.specs.Counts.{IsSound, NamesData}
-use Rattle.heap_model.specs.Leaving.{Respells, database_here}
-use Rattle.heap_model.specs.EntrySteps.{with_attributes, with_entries, resources_under, LeavesStore}
-use Rattle.heap_model.specs.declared.names.Db.{Db}
-use Rattle.laws_store.proofs.Numbered.{accepted_sound, kind_here}
-use Rattle.laws_store.proofs.EditedStores.{respell_steps}
-use Rattle.database_edits.specs.Recorded.{attributes_changed}
 use Rattle.palm_store.specs.AttributeChanges.{MayChange}
-use Rattle.palm_store.specs.Databases.{HasNumber}
 
 -- the data and the IDs stay
 data_kept : (change : ℕ → ℕ) (entries : List (Entry ℕ)) → map entry_data (map (with_attributes change) entries) ≡ map entry_data entries

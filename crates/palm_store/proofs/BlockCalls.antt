@@ -1,20 +1,7 @@
 -- The calls on info blocks: what they look at first, and the steps that they make.
-use Rattle.std.proofs.Common.{◌≡◌, ◌≢◌, ℕ, true, List, Option, Some, None, refl, sym, ap, ◌∙◌, inl, inr}
-use Rattle.std.specs.Prelude.{IsSome}
-use Rattle.heap_model.specs.Memory.{Memory}
-use Rattle.heap_model.specs.Database.{is_read_only}
-use Rattle.heap_model.specs.Refusals.{NoneHolds, FirstBrings}
-use Rattle.heap_model.specs.Store.{StoredDatabase, Accepted, store_of}
-use Rattle.heap_model.specs.StoreWords.{OfDatabase, In, with_number}
-use Rattle.heap_model.specs.StoreSteps.{DoesInStore}
-use Rattle.heap_model.specs.declared.names.Db.{Db}
-use Rattle.heap_model.specs.declared.names.Name.{Name}
-use Rattle.heap_model.specs.declared.names.Which.{Which}
+use Rattle.palm_store.proofs.Words.{◌≡◌, ◌≢◌, ℕ, true, List, Option, Some, None, refl, sym, ap, ◌∙◌, inl, inr, IsSome, Memory, is_read_only, NoneHolds, FirstBrings, StoredDatabase, Accepted, store_of, OfDatabase, In, with_number, DoesInStore, Db, Name, Which, InfoBlock, ReadOnly, NoInfoBlock, asks, same_store, refused}
 use Rattle.heap_model.specs.declared.call.Call.TheVariants as calls
-use Rattle.heap_model.specs.declared.call.DatabaseCall.TheVariants.{InfoBlock}
 use Rattle.heap_model.specs.declared.call.Reply.TheVariants.{Named, Refused}
-use Rattle.heap_model.specs.declared.refusal.Refusal.TheVariants.{ReadOnly, NoInfoBlock}
-use Rattle.laws_store.proofs.CallSteps.{asks, same_store, refused}
 use Rattle.palm_store.specs.InfoBlocks.{block_of_image, writing_checks}
 
 -- ---- the database

@@ -1,50 +1,11 @@
 -- A database that was made: its header is written into the chunk that was listed last.
-use Rattle.std.proofs.Common.{◌≡◌, ◌≢◌, ℕ, ◌+◌, ◌^◌, ◌<◌, ◌≤◌, Bool, true, false, List, [], ◌∷◌, ◌++◌, length, get_or, replicate, Option, Some, None, refl, sym, ap, subst, ◌∙◌, arith, length-append, inl, inr}
-use Rattle.std.proofs.lemmas.Bool.{both_ways, cases_eq}
-use Rattle.std.proofs.lemmas.List.{append-nil, map-append, get_or-map, length-map}
-use Rattle.std.proofs.lemmas.List.Elements.{All-nil}
+use Rattle.palm_store.proofs.Words.{◌≡◌, ◌≢◌, ℕ, ◌+◌, ◌^◌, ◌<◌, ◌≤◌, Bool, true, false, List, [], ◌∷◌, ◌++◌, length, get_or, replicate, Option, Some, None, refl, sym, ap, subst, ◌∙◌, arith, length-append, inl, inr, both_ways, cases_eq, append-nil, map-append, get_or-map, length-map, All-nil, IsTrue, ◌⊎◌, if◌then◌else◌, All, filter_map, flat_map, Memory, KeepsLoan, u32_bytes, header_size, HeapAccepted, directory_of, LiveChunk, chunks_of, held, free_slots, rooms, same, times, u32s_in, Distinct, not_owned, callers_map, put, Leaves, Stuck, Entry, Database, data_in, header_bytes, entry_bytes, spelled, has_resources, IsDatabaseName, EntryFits, DatabaseFits, StoredDatabase, owner_under, directory_bytes, listed, databases, names_of, most_databases, unique_id, unique_ids, HasUniqueIds, Accepted, store_of, NamesData, IsTaken, empty_database, create_parts, create_slots, DoesInStore, Db, Refusal, NotEnoughSpace, InvalidName, AlreadyExists, TooManyEntries, Create, length-u32_bytes, read_heap, callers_managers, as_before, Appends, same-yes, same-no, times-cons, owned_slot, directory_owner, owned_some, has_databases, listed_numbers, length-numbers, get-any, directory_like, number_owner, managers_loose, u32s_push, refused, create_steps, ListsNew, all_written}
 use Rattle.std.proofs.lemmas.List.Quantifiers.{all_pairs_push}
-use Rattle.std.specs.Prelude.{IsTrue, ◌⊎◌, if◌then◌else◌, All}
-use Rattle.std.specs.List.{filter_map, flat_map}
-use Rattle.heap_model.specs.Memory.{Memory}
-use Rattle.heap_model.specs.Lending.{KeepsLoan}
-use Rattle.heap_model.specs.Bytes.{u32_bytes}
-use Rattle.heap_model.specs.DatabaseFields.{header_size}
-use Rattle.heap_model.specs.Heap.{HeapAccepted, directory_of}
-use Rattle.heap_model.specs.Meaning.{LiveChunk}
-use Rattle.heap_model.specs.Reading.{chunks_of, held}
-use Rattle.heap_model.specs.Space.{free_slots, rooms}
-use Rattle.heap_model.specs.Lists.{same, times, u32s_in, Distinct}
-use Rattle.heap_model.specs.Maps.{not_owned, callers_map, put}
-use Rattle.heap_model.specs.Leaving.{Leaves}
-use Rattle.heap_model.specs.Rooms.{Stuck}
-use Rattle.heap_model.specs.Database.{Entry, Database, data_in, header_bytes, entry_bytes, spelled, has_resources, IsDatabaseName, EntryFits, DatabaseFits}
-use Rattle.heap_model.specs.Store.{StoredDatabase, owner_under, directory_bytes, listed, databases, names_of, most_databases, unique_id, unique_ids, HasUniqueIds, Accepted, store_of}
-use Rattle.heap_model.specs.Counts.{NamesData}
-use Rattle.heap_model.specs.DatabaseSteps.{IsTaken, empty_database, create_parts, create_slots}
-use Rattle.heap_model.specs.StoreSteps.{DoesInStore}
-use Rattle.heap_model.specs.declared.names.Db.{Db}
-use Rattle.heap_model.specs.declared.refusal.Refusal.{Refusal}
-use Rattle.heap_model.specs.declared.refusal.Refusal.TheVariants.{NotEnoughSpace, InvalidName, AlreadyExists, TooManyEntries}
-use Rattle.heap_model.specs.declared.call.DatabaseCall.TheVariants.{Create}
 use Rattle.heap_model.specs.declared.call.Call.TheVariants as calls
 use Rattle.heap_model.specs.declared.call.Reply.TheVariants as replies
-use Rattle.laws_heap.proofs.Frames.{length-u32_bytes}
 use Rattle.laws_heap.proofs.Slots.{slot_facts}
-use Rattle.laws_heap.proofs.FoundChunks.{read_heap, callers_managers}
-use Rattle.laws_heap.proofs.FreeCounts.{as_before}
-use Rattle.laws_store.specs.Changes.{Appends}
-use Rattle.laws_store.proofs.Times.{same-yes, same-no, times-cons}
-use Rattle.laws_store.proofs.Owners.{owned_slot, directory_owner, owned_some}
-use Rattle.laws_store.proofs.Counts.{has_databases, listed_numbers, length-numbers}
-use Rattle.laws_store.proofs.RewrittenDatabases.{get-any}
-use Rattle.laws_store.proofs.KeptDatabases.{directory_like, number_owner}
-use Rattle.laws_store.proofs.NewDatabases.{managers_loose, u32s_push}
-use Rattle.laws_store.proofs.CallSteps.{refused}
-use Rattle.laws_store.proofs.ChangeSteps.{create_steps, same_steps}
-use Rattle.palm_store.specs.Directory.{ListsNew}
+use Rattle.laws_store.proofs.ChangeSteps.{same_steps}
 use Rattle.palm_store.proofs.Maps.{owner_held, owner_none, owner_alike, bytes_held, owned, held_some, still_through}
-use Rattle.mem_manager.proofs.StoreCalls.{all_written}
 use Rattle.palm_store.proofs.ListedSlots.{chunk_of, put_here, put_apart, lock_of}
 
 -- ---- the header is written

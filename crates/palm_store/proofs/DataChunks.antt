@@ -1,16 +1,7 @@
 -- Chunks for data: callers may name them, and they are movable.
-use Rattle.std.proofs.Common.{◌≡◌, ◌≢◌, ℕ, ◌<◌, List, Option, Some, None, refl, ap, ◌∙◌, arith}
-use Rattle.heap_model.specs.Chunk.{Chunk, free, movable, fixed, fixed_lock, Spelled, data_owner}
-use Rattle.heap_model.specs.Heap.{HeapAccepted, IsCallersIfFixed, directory_of}
-use Rattle.heap_model.specs.Meaning.{LiveChunk, NamedHere}
-use Rattle.heap_model.specs.Reading.{held}
-use Rattle.heap_model.specs.Maps.{callers_map}
-use Rattle.heap_model.specs.Store.{owner_of, owner_under}
+use Rattle.palm_store.proofs.Words.{◌≡◌, ◌≢◌, ℕ, ◌<◌, List, Option, Some, None, refl, ap, ◌∙◌, arith, Chunk, free, movable, fixed, fixed_lock, Spelled, data_owner, HeapAccepted, IsCallersIfFixed, directory_of, LiveChunk, NamedHere, held, callers_map, owner_of, owner_under, held_finds, finds_spelled, callers_some, IsMovable, directory_owner}
 use Rattle.laws_heap.proofs.AlteredChunks.{finds_callers}
 use Rattle.laws_heap.proofs.FixedNames.{fixed_live_is}
-use Rattle.laws_heap.proofs.FoundChunks.{held_finds, finds_spelled, callers_some}
-use Rattle.mem_manager.specs.Lookup.{IsMovable}
-use Rattle.laws_store.proofs.Owners.{directory_owner}
 
 -- a chunk that is for data
 pub record IsForData (image : List ℕ) (name : ℕ) : Type 0 where

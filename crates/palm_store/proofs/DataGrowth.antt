@@ -1,19 +1,5 @@
 -- The data of an entry that takes another size: what refuses it, and what is left.
-use Rattle.std.proofs.Common.{◌≡◌, ℕ, ◌+◌, ◌<◌, List, ◌∷◌, [], length, Option, sym, subst, ◌∙◌}
-use Rattle.heap_model.specs.Memory.{Memory}
-use Rattle.heap_model.specs.Lending.{IsLent}
-use Rattle.heap_model.specs.Meaning.{LiveChunk}
-use Rattle.heap_model.specs.Reading.{held}
-use Rattle.heap_model.specs.Chunk.{need, data_owner}
-use Rattle.heap_model.specs.Space.{free_behind, ShortFor}
-use Rattle.heap_model.specs.Maps.{sized, callers_map}
-use Rattle.heap_model.specs.MemorySteps.{Of, IsLocked, growth_checks}
-use Rattle.heap_model.specs.Refusals.{Check, ◌brings◌, NoneHolds, FirstBrings}
-use Rattle.heap_model.specs.Store.{owner_under, store_of}
-use Rattle.heap_model.specs.EntrySteps.{with_chunks, LeavesStore}
-use Rattle.heap_model.specs.declared.refusal.Refusal.{Refusal}
-use Rattle.heap_model.specs.declared.refusal.Refusal.TheVariants.{ChunkLocked, NotEnoughSpace, Lent}
-use Rattle.palm_store.specs.EntryCalls.{checks_of_data_growth, data_sized}
+use Rattle.palm_store.proofs.Words.{◌≡◌, ℕ, ◌+◌, ◌<◌, List, ◌∷◌, [], length, Option, sym, subst, ◌∙◌, Memory, IsLent, LiveChunk, held, need, data_owner, free_behind, ShortFor, sized, callers_map, Of, IsLocked, growth_checks, Check, ◌brings◌, NoneHolds, FirstBrings, owner_under, store_of, with_chunks, LeavesStore, Refusal, ChunkLocked, NotEnoughSpace, Lent, checks_of_data_growth, data_sized}
 use Rattle.palm_store.proofs.DataChunks.{for_data, data_callers}
 
 -- ---- the checks, by what the name stands for

@@ -1,38 +1,9 @@
 -- That a database is deleted is a step of the store, and so is that a locked chunk of it forbids
 -- that.
-use Rattle.std.proofs.Common.{◌≡◌, ◌≢◌, ℕ, ◌+◌, ◌*◌, ◌<◌, ◌≤◌, List, [], ◌∷◌, ◌++◌, length, Option, Some, None, refl, sym, ap, subst, ◌∙◌, arith, inl, inr}
-use Rattle.std.proofs.lemmas.Bool.{cases_eq, cases_lt}
-use Rattle.std.specs.Prelude.{◌==◌, if◌then◌else◌, Any}
-use Rattle.std.specs.Option.{is_some}
-use Rattle.heap_model.specs.Memory.{Memory}
-use Rattle.heap_model.specs.Lending.{KeepsLoan}
-use Rattle.heap_model.specs.Heap.{HeapAccepted, directory_of}
-use Rattle.heap_model.specs.Meaning.{LiveChunk}
-use Rattle.heap_model.specs.Reading.{held}
-use Rattle.heap_model.specs.Space.{Still}
-use Rattle.heap_model.specs.Maps.{gone, callers_map}
-use Rattle.heap_model.specs.Lists.{times}
-use Rattle.heap_model.specs.Leaving.{Leaves}
-use Rattle.heap_model.specs.Database.{Database, data_in}
-use Rattle.heap_model.specs.MemorySteps.{Of, IsLocked}
-use Rattle.heap_model.specs.Store.{StoredDatabase, owner_of, owner_under, directory_bytes, database_under, Accepted, store_of}
-use Rattle.heap_model.specs.StoreWords.{OfDatabase, In, all_gone, with_number}
-use Rattle.heap_model.specs.StoreSteps.{DoesInStore}
-use Rattle.heap_model.specs.declared.names.Db.{Db}
-use Rattle.heap_model.specs.declared.refusal.Refusal.TheVariants.{ChunkLocked}
-use Rattle.heap_model.specs.declared.call.DatabaseCall.TheVariants.{Delete}
+use Rattle.palm_store.proofs.Words.{◌≡◌, ◌≢◌, ℕ, ◌+◌, ◌*◌, ◌<◌, ◌≤◌, List, [], ◌∷◌, ◌++◌, length, Option, Some, None, refl, sym, ap, subst, ◌∙◌, arith, inl, inr, cases_eq, cases_lt, ◌==◌, if◌then◌else◌, Any, is_some, Memory, KeepsLoan, HeapAccepted, directory_of, LiveChunk, held, Still, gone, callers_map, times, Leaves, Database, data_in, Of, IsLocked, StoredDatabase, owner_of, owner_under, directory_bytes, database_under, Accepted, store_of, OfDatabase, In, all_gone, with_number, DoesInStore, Db, ChunkLocked, Delete, keeps_itself, held-zero, times-cons, times-append, managers_loose, directory_owner, drop_steps, HasNumber, IsListedAt, named_under, Unlists}
 use Rattle.heap_model.specs.declared.call.Call.TheVariants as calls
 use Rattle.heap_model.specs.declared.call.Reply.TheVariants as replies
-use Rattle.laws_heap.proofs.KeptLoans.{keeps_itself}
-use Rattle.laws_heap.proofs.Meanings.{held-zero}
-use Rattle.laws_store.proofs.Times.{times-cons, times-append}
-use Rattle.laws_store.proofs.NewDatabases.{managers_loose}
-use Rattle.laws_store.proofs.Owners.{directory_owner}
-use Rattle.laws_store.proofs.ChangeSteps.{drop_steps}
-use Rattle.palm_store.specs.Databases.{HasNumber, IsListedAt}
 use Rattle.palm_store.proofs.Numbers.{stands, has_number_is, in_store, length-listed, number_slot, no_directory}
-use Rattle.palm_store.specs.Databases.{named_under}
-use Rattle.palm_store.specs.Directory.{Unlists}
 use Rattle.palm_store.proofs.Maps.{kept, is_gone, owned}
 use Rattle.palm_store.proofs.ListedSlots.{few_bytes, lock_of}
 use Rattle.palm_store.proofs.NamedChunks.{number_unnamed, no_chunk, freed_one, freed_more}

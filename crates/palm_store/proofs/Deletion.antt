@@ -1,26 +1,7 @@
 -- A database that was deleted: its header and what it named are gone, and its slot is listed no
 -- longer.
-use Rattle.std.proofs.Common.{◌≡◌, ◌≢◌, ℕ, ◌+◌, ◌*◌, ◌<◌, ◌≤◌, Bool, true, false, List, ◌∷◌, ◌++◌, length, take, drop, None, refl, sym, ap, ◌∙◌, arith, length-append, length-take, length-drop, inl, inr}
-use Rattle.std.proofs.lemmas.Bool.{cases_eq}
-use Rattle.std.specs.Prelude.{◌==◌, if◌then◌else◌}
-use Rattle.heap_model.specs.Heap.{directory_of}
-use Rattle.heap_model.specs.Reading.{held}
-use Rattle.heap_model.specs.Lists.{same, times, u32s_in}
-use Rattle.heap_model.specs.Leaving.{Leaves}
-use Rattle.heap_model.specs.Database.{data_in}
-use Rattle.heap_model.specs.Store.{StoredDatabase, owner_under, directory_bytes, listed, databases, Accepted}
-use Rattle.heap_model.specs.StoreWords.{all_gone}
-use Rattle.laws_heap.proofs.Meanings.{held-zero}
-use Rattle.laws_store.specs.Changes.{Drops, Clears}
-use Rattle.laws_store.proofs.Times.{same-yes, same-no, times-cons}
-use Rattle.laws_store.proofs.NameCounts.{named-remove}
-use Rattle.laws_store.proofs.Owners.{directory_owner, owned_some}
-use Rattle.laws_store.proofs.Counts.{has_databases, same-is, header_slots, length-numbers}
-use Rattle.laws_store.proofs.RewrittenDatabases.{number_at}
-use Rattle.laws_store.proofs.KeptDatabases.{directory_like}
-use Rattle.laws_store.proofs.DroppedDatabases.{u32s_remove}
+use Rattle.palm_store.proofs.Words.{◌≡◌, ◌≢◌, ℕ, ◌+◌, ◌*◌, ◌<◌, ◌≤◌, Bool, true, false, List, ◌∷◌, ◌++◌, length, take, drop, None, refl, sym, ap, ◌∙◌, arith, length-append, length-take, length-drop, inl, inr, cases_eq, ◌==◌, if◌then◌else◌, directory_of, held, same, times, u32s_in, Leaves, data_in, StoredDatabase, owner_under, directory_bytes, listed, databases, Accepted, all_gone, held-zero, Drops, Clears, same-yes, same-no, times-cons, named-remove, directory_owner, owned_some, has_databases, same-is, header_slots, length-numbers, number_at, directory_like, u32s_remove, Unlists}
 use Rattle.palm_store.proofs.Numbers.{Stands, length-listed, length-databases}
-use Rattle.palm_store.specs.Directory.{Unlists}
 use Rattle.palm_store.proofs.Maps.{kept, is_gone, owner_none, owner_alike}
 
 -- ---- what a database names, by the owners

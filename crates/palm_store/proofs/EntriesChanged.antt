@@ -1,20 +1,6 @@
 -- The entries of one database changed: what follows on two changes, and on one that changes
 -- nothing.
-use Rattle.std.proofs.Common.{◌≡◌, ℕ, Bool, List, [], ◌∷◌, set, Option, Some, None, refl, sym, ap, subst, ◌∙◌, inl, inr}
-use Rattle.std.proofs.lemmas.Bool.{cases_eq, eq-eqb, ne_eqb}
-use Rattle.std.proofs.lemmas.List.{set-get_or}
-use Rattle.std.proofs.lemmas.Option.{get_or_from_slice_get}
-use Rattle.std.specs.Prelude.{◌==◌, IsSome, slice_get, slice_set}
-use Rattle.std.specs.List.{find}
-use Rattle.heap_model.specs.Database.{Database, Entry}
-use Rattle.heap_model.specs.Store.{StoredDatabase, databases, Accepted, store_of}
-use Rattle.heap_model.specs.StoreWords.{with_changed, with_number}
-use Rattle.heap_model.specs.EntrySteps.{entry_under, replaced_if, replaced, entry_changed, LeavesStore}
-use Rattle.heap_model.specs.declared.names.Db.{Db}
-use Rattle.laws_heap.proofs.Tests.{cond-true, cond-false, same_some, none_some}
-use Rattle.laws_store.proofs.Found.{changed_by_number, changed_twice}
-use Rattle.laws_store.proofs.ChangeSteps.{number_once}
-use Rattle.palm_store.specs.EntryCalls.{raised_if}
+use Rattle.palm_store.proofs.Words.{◌≡◌, ℕ, Bool, List, [], ◌∷◌, set, Option, Some, None, refl, sym, ap, subst, ◌∙◌, inl, inr, cases_eq, eq-eqb, ne_eqb, set-get_or, get_or_from_slice_get, ◌==◌, IsSome, slice_get, slice_set, find, Database, Entry, StoredDatabase, databases, Accepted, store_of, with_changed, with_number, entry_under, replaced_if, replaced, entry_changed, LeavesStore, Db, cond-true, cond-false, same_some, none_some, changed_by_number, changed_twice, number_once, raised_if}
 use Rattle.palm_store.proofs.OpenedEntries.{Here, here, entry_is}
 
 -- a database with other entries

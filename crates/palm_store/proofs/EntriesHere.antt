@@ -1,21 +1,7 @@
 -- The entries of the database of a number, as its header spells them.
-use Rattle.std.proofs.Common.{◌≡◌, ℕ, ◌+◌, ◌<◌, ◌≤◌, ◌^◌, Bool, false, List, length, Option, Some, sym, ap, subst, ◌∙◌, arith}
-use Rattle.std.specs.Prelude.{slice_get}
-use Rattle.heap_model.specs.Bytes.{u16_at}
-use Rattle.heap_model.specs.DatabaseFields.{header_size, attributes_at}
-use Rattle.heap_model.specs.Database.{Entry, Database, database_in, entry_in, entry_count_in, resources_in, entry_offset, has_resources, EntryFits}
-use Rattle.heap_model.specs.Store.{bytes_under, Accepted, store_of}
-use Rattle.heap_model.specs.StoreWords.{In}
-use Rattle.heap_model.specs.Leaving.{database_here}
-use Rattle.heap_model.specs.EntrySteps.{entries_in, OfEntry, resources_under}
-use Rattle.heap_model.specs.declared.names.Db.{Db}
+use Rattle.palm_store.proofs.Words.{◌≡◌, ℕ, ◌+◌, ◌<◌, ◌≤◌, ◌^◌, Bool, false, List, length, Option, Some, sym, ap, subst, ◌∙◌, arith, slice_get, u16_at, header_size, attributes_at, Entry, Database, database_in, entry_in, entry_count_in, resources_in, entry_offset, has_resources, EntryFits, bytes_under, Accepted, store_of, In, database_here, entries_in, OfEntry, resources_under, Db, offset_below, in_store, number_here, number_spelled, entries_here, kind_here, entry_fits, accepted_sound, accepted_spells, OpenDatabase, HasNumber, HasDatabase, IsOpened}
 use Rattle.db_format.proofs.ViewLaws.{attributes_read, length-read, entry_read}
-use Rattle.laws_store.proofs.Shapes.{offset_below}
-use Rattle.laws_store.proofs.Numbered.{in_store, number_here, number_spelled, entries_here, kind_here, entry_fits, accepted_sound, accepted_spells}
-use Rattle.database_edits.specs.declared.opened.OpenDatabase.{OpenDatabase}
 use Rattle.database_edits.specs.Opened.{IsOpenHere}
-use Rattle.palm_store.specs.Databases.{HasNumber, HasDatabase}
-use Rattle.palm_store.specs.Opened.{IsOpened}
 use Rattle.palm_store.proofs.Numbers.{number_shape}
 
 pub attributes_in_store : (image body : List ℕ) (db : Db) (attributes : ℕ) → HasNumber image db.0 → body ≡ bytes_under image db.0 → attributes ≡ u16_at body attributes_at → In (store_of image) db (λ database. database.header.attributes ≡ attributes)

@@ -1,37 +1,6 @@
 -- Changes of one database, and of one chunk for data that it names, are changes of the store.
-use Rattle.std.proofs.Common.{◌≡◌, ◌≢◌, ℕ, ◌+◌, ◌<◌, ◌≤◌, Bool, true, false, List, [], length, Option, Some, None, refl, sym, ap, subst, ◌∙◌, arith, rules}
-use Rattle.std.proofs.lemmas.List.Elements.{All-nil}
-use Rattle.std.specs.Prelude.{IsSome, slice_get, slice_set}
-use Rattle.std.specs.List.{remove}
-use Rattle.heap_model.specs.Chunk.{data_owner, managers_owner}
-use Rattle.heap_model.specs.Heap.{directory_of}
-use Rattle.heap_model.specs.Meaning.{LiveChunk}
-use Rattle.heap_model.specs.Reading.{held}
-use Rattle.heap_model.specs.Lists.{same, times, moved}
-use Rattle.heap_model.specs.Maps.{updated, changed, gone, reowned, callers_map}
-use Rattle.heap_model.specs.Database.{Entry, entry_data, Database, data_in, spelled, has_resources, EntryFits}
-use Rattle.heap_model.specs.Store.{StoredDatabase, Store, owner_of, owner_under, databases, unique_id, Accepted, store_of}
-use Rattle.heap_model.specs.StoreWords.{with_changed}
-use Rattle.heap_model.specs.Counts.{IsSound, NamesData}
-use Rattle.heap_model.specs.Leaving.{Leaves, Respells, database_here}
-use Rattle.heap_model.specs.EntrySteps.{entry_under, data_of_entry, data_under, replaced, without_data, with_entries, entry_changed, data_freed, entry_dropped, entry_handed_over, raised, LeavesStore, MakesNone}
-use Rattle.heap_model.specs.declared.names.Db.{Db}
+use Rattle.palm_store.proofs.Words.{◌≡◌, ◌≢◌, ℕ, ◌+◌, ◌<◌, ◌≤◌, Bool, true, false, List, [], length, Option, Some, None, refl, sym, ap, subst, ◌∙◌, arith, rules, All-nil, IsSome, slice_get, slice_set, remove, data_owner, managers_owner, directory_of, LiveChunk, held, same, times, moved, updated, changed, gone, reowned, callers_map, Entry, entry_data, Database, data_in, spelled, has_resources, EntryFits, StoredDatabase, Store, owner_of, owner_under, databases, unique_id, Accepted, store_of, with_changed, IsSound, NamesData, Leaves, Respells, database_here, entry_under, data_of_entry, data_under, replaced, without_data, with_entries, entry_changed, data_freed, entry_dropped, entry_handed_over, raised, LeavesStore, MakesNone, Db, same_some, none_some, HasOwnId, changed_twice, same-no, owned_some, accepted_sound, number_slot, number_some, number_held, data_here, entry_here, entry_owner, Change, one_change, edited, gone_balance, edit_steps, each_one, respell_steps, raised_sound, replaced_is, replaced_kept, replaced_own, replaced_names, removed_sound, removed_names, moved_sound, moved_names, IsMovable, counted, counted_if, with_moved, entry_moved, entry_written, entry_removed, HasNumber, IsEntryData, HasLockedData, raised_if, Of, IsLocked}
 use Rattle.db_format.specs.Entries.{with_entry}
-use Rattle.laws_heap.proofs.Tests.{same_some, none_some}
-use Rattle.laws_store.specs.Entries.{HasOwnId}
-use Rattle.laws_store.proofs.Found.{changed_twice}
-use Rattle.laws_store.proofs.Times.{same-no}
-use Rattle.laws_store.proofs.Owners.{owned_some}
-use Rattle.laws_store.proofs.Numbered.{accepted_sound, number_slot, number_some, number_held, data_here, entry_here, entry_owner}
-use Rattle.laws_store.specs.Changes.{Change}
-use Rattle.laws_store.proofs.Edited.{one_change, edited, gone_balance}
-use Rattle.laws_store.proofs.EditedStores.{edit_steps, each_one, respell_steps}
-use Rattle.laws_store.proofs.Entries.{raised_sound, replaced_is, replaced_kept, replaced_own, replaced_names, removed_sound, removed_names, moved_sound, moved_names}
-use Rattle.mem_manager.specs.Lookup.{IsMovable}
-use Rattle.database_edits.specs.Edits.{counted, counted_if, with_moved, entry_moved, entry_written, entry_removed}
-use Rattle.palm_store.specs.Databases.{HasNumber}
-use Rattle.palm_store.specs.EntryCalls.{IsEntryData, HasLockedData, raised_if}
-use Rattle.heap_model.specs.MemorySteps.{Of, IsLocked}
 use Rattle.palm_store.proofs.DataChunks.{for_data, data_callers, data_movable, data_no_directory}
 use Rattle.palm_store.proofs.TwoSteps.{rewritten_apart, respelled_then, none_made, none_made_by, no_chunk}
 

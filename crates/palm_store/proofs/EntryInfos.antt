@@ -1,19 +1,8 @@
 -- An entry with another info: it names the same data, and what the info has to be makes it sound.
-use Rattle.std.proofs.Common.{◌≡◌, ℕ, Bool, true, false, List, Option, Some, refl, sym, ap, subst, ◌∙◌, arith}
+use Rattle.palm_store.proofs.Words.{◌≡◌, ℕ, Bool, true, false, List, Option, Some, refl, sym, ap, subst, ◌∙◌, arith, slice_get, ◌==◌, bit_or, Entry, a_record, a_resource, entry_data, is_deleted, has_resources, EntryFits, unique_id, Accepted, store_of, NamesData, database_here, resources_under, OfEntry, deleted_bit, without_data, Db, HasOwnId, accepted_sound, entry_here, kind_here, data_here, entry_fits, entry_names, HasNumber, EntryInfo, with_info, CanHave, HasFittingInfo}
 use Rattle.std.proofs.lemmas.Nat.Bits.{bit_at_or, bit_at-lt, bit_at-pow_same}
-use Rattle.std.specs.Prelude.{slice_get, ◌==◌, bit_or}
 use Rattle.std.specs.Int.{bit_at}
-use Rattle.heap_model.specs.Database.{Entry, a_record, a_resource, entry_data, is_deleted, has_resources, EntryFits}
-use Rattle.heap_model.specs.Store.{unique_id, Accepted, store_of}
-use Rattle.heap_model.specs.Counts.{NamesData}
-use Rattle.heap_model.specs.Leaving.{database_here}
-use Rattle.heap_model.specs.EntrySteps.{resources_under, OfEntry, deleted_bit, without_data}
-use Rattle.heap_model.specs.declared.names.Db.{Db}
-use Rattle.laws_store.specs.Entries.{HasOwnId}
-use Rattle.laws_store.proofs.Numbered.{accepted_sound, entry_here, kind_here, data_here, entry_fits, entry_names}
-use Rattle.palm_store.specs.Databases.{HasNumber}
 use Rattle.palm_store.specs.declared.entries.infos.EntryInfo.TheVariants as infos
-use Rattle.palm_store.specs.EntryInfos.{EntryInfo, with_info, CanHave, HasFittingInfo}
 
 pub fitting_info : (image : List ℕ) (db : Db) (index : ℕ) (info : EntryInfo) → CanHave (store_of image) db (resources_under (store_of image) db) index info → HasFittingInfo info
 fitting_info image db index (infos.Record attributes id) can = can.2

@@ -1,24 +1,7 @@
 -- Data that is written whole, and what callers see of the bytes of a chunk.
-use Rattle.std.proofs.Common.{◌≡◌, ◌≢◌, ℕ, List, [], length, Option, Some, None, refl, sym, ap, subst, ◌∙◌, arith, inl, inr}
-use Rattle.std.proofs.lemmas.Bool.{cases_eq}
-use Rattle.heap_model.specs.Chunk.{managers_owner, data_owner}
-use Rattle.heap_model.specs.Bytes.{overwritten}
-use Rattle.heap_model.specs.Heap.{HeapAccepted}
-use Rattle.heap_model.specs.Meaning.{LiveChunk}
-use Rattle.heap_model.specs.Reading.{held}
-use Rattle.heap_model.specs.Maps.{updated, changed, put, not_owned}
-use Rattle.heap_model.specs.Leaving.{Leaves, rewritten}
-use Rattle.heap_model.specs.MemorySteps.{Of}
-use Rattle.heap_model.specs.Store.{bytes_of, bytes_under, owner_under, Accepted, store_of}
-use Rattle.heap_model.specs.EntrySteps.{LeavesStore}
-use Rattle.laws_heap.proofs.Meanings.{held-zero}
-use Rattle.laws_store.proofs.Edited.{hidden, shown}
-use Rattle.laws_store.proofs.EditedStores.{change_steps, callers_change}
-use Rattle.mem_manager.specs.Lookup.{IsMovable}
-use Rattle.palm_store.specs.Files.{IsDataName, HasDataOf, data_filled}
+use Rattle.palm_store.proofs.Words.{◌≡◌, ◌≢◌, ℕ, List, [], length, Option, Some, None, refl, sym, ap, subst, ◌∙◌, arith, inl, inr, cases_eq, managers_owner, data_owner, overwritten, HeapAccepted, LiveChunk, held, updated, changed, put, not_owned, Leaves, rewritten, Of, bytes_of, bytes_under, owner_under, Accepted, store_of, LeavesStore, held-zero, hidden, shown, change_steps, callers_change, IsMovable, IsDataName, HasDataOf, data_filled, all_written}
 use Rattle.palm_store.proofs.DataChunks.{for_data, data_movable}
 use Rattle.palm_store.proofs.Maps.{owner_held, bytes_held}
-use Rattle.mem_manager.proofs.StoreCalls.{all_written}
 
 -- ---- what callers see
 

@@ -1,35 +1,8 @@
 -- Chunks of zeros that were made for data: one, several one after the other, and all of them freed
 -- again.
-use Rattle.std.proofs.Common.{◌≡◌, ◌≢◌, ℕ, suc, ◌+◌, ◌-◌, ◌<◌, ◌≤◌, List, [], ◌∷◌, ◌++◌, length, get_or, set, take, drop, replicate, Option, Some, None, refl, sym, ap, subst, ◌∙◌, arith, length-append, inl, inr}
-use Rattle.std.proofs.lemmas.Bool.{cases_eq}
-use Rattle.std.proofs.lemmas.List.{map-append, get_or-map, length-map, take-map, take-append-drop, take_more, take_more_set}
-use Rattle.std.specs.Prelude.{IsSome, IfOk, OnOk, Result, Ok, Err}
-use Rattle.std.specs.Option.{is_some}
-use Rattle.std.specs.List.{AllZip}
-use Rattle.heap_model.specs.Chunk.{need}
-use Rattle.heap_model.specs.Heap.{HeapAccepted, directory_of}
-use Rattle.heap_model.specs.Meaning.{LiveChunk, ChunkMap}
-use Rattle.heap_model.specs.MemorySteps.{Of, IsLocked}
-use Rattle.heap_model.specs.Reading.{held}
-use Rattle.heap_model.specs.Space.{rooms}
-use Rattle.heap_model.specs.Lists.{times}
-use Rattle.heap_model.specs.Maps.{gone}
-use Rattle.heap_model.specs.Rooms.{Part, Lowers, stretch_of}
-use Rattle.heap_model.specs.Leaving.{Leaves}
-use Rattle.heap_model.specs.Store.{owner_under}
-use Rattle.heap_model.specs.StoreWords.{all_gone}
-use Rattle.heap_model.specs.declared.names.Name.{Name}
-use Rattle.heap_model.specs.declared.refusal.Refusal.{Refusal}
-use Rattle.palm_store.specs.declared.databases.whole.BlockSizes.{BlockSizes}
-use Rattle.laws_heap.proofs.SameLayouts.{frame_then}
-use Rattle.laws_heap.proofs.Meanings.{held-zero}
-use Rattle.laws_store.proofs.Times.{same-yes, same-no, times-cons, times-append}
-use Rattle.laws_store.proofs.Owners.{directory_owner}
-use Rattle.laws_store.proofs.NewDatabases.{slots_made}
+use Rattle.palm_store.proofs.Words.{◌≡◌, ◌≢◌, ℕ, suc, ◌+◌, ◌-◌, ◌<◌, ◌≤◌, List, [], ◌∷◌, ◌++◌, length, get_or, set, take, drop, replicate, Option, Some, None, refl, sym, ap, subst, ◌∙◌, arith, length-append, inl, inr, cases_eq, map-append, get_or-map, length-map, take-map, take-append-drop, take_more, take_more_set, IsSome, IfOk, OnOk, Ok, Err, is_some, AllZip, need, HeapAccepted, directory_of, LiveChunk, ChunkMap, Of, IsLocked, held, rooms, times, gone, Part, Lowers, stretch_of, Leaves, owner_under, all_gone, Name, Refusal, BlockSizes, frame_then, held-zero, same-yes, same-no, times-cons, times-append, directory_owner, slots_made, MakesNew, IsMovable, makings, WholeEntry, size_of_data, data_sizes, numbers_in, IsGained, GainsZeros, RunsOut, Spends, MakesAll, AreOwnChunks}
+use Rattle.std.specs.Prelude.{Result}
 use Rattle.laws_store.proofs.Edited.{here as updated_here, apart as updated_apart}
-use Rattle.mem_manager.specs.Lookup.{MakesNew, IsMovable}
-use Rattle.heap_model.specs.FileSteps.{makings}
-use Rattle.palm_store.specs.WholeDatabases.{WholeEntry, size_of_data, data_sizes, numbers_in, IsGained, GainsZeros, RunsOut, Spends, MakesAll, AreOwnChunks}
 use Rattle.palm_store.proofs.Maps.{gone_out, gone_in, kept, owner_none, held_some, still_through}
 use Rattle.palm_store.proofs.NamedChunks.{freed_one, freed_more}
 use Rattle.palm_store.proofs.WholeRooms.{spends_both, makings-append, runs_more, runs_then}

@@ -1,16 +1,5 @@
 -- Whether a database can take a chunk: what refuses it, by the chunk's owner and its locks.
-use Rattle.std.proofs.Common.{◌≡◌, ◌≢◌, ℕ, List, [], ◌∷◌, Option, Some, None, refl, sym, ap, subst, ◌∙◌, arith, inl, inr}
-use Rattle.std.specs.Prelude.{IsSome}
-use Rattle.heap_model.specs.Chunk.{fixed_lock, data_owner, managers_owner}
-use Rattle.heap_model.specs.Meaning.{LiveChunk}
-use Rattle.heap_model.specs.Reading.{held}
-use Rattle.heap_model.specs.Maps.{not_owned, callers_map}
-use Rattle.heap_model.specs.MemorySteps.{Of}
-use Rattle.heap_model.specs.Refusals.{Check, ◌brings◌, NoneHolds, FirstBrings}
-use Rattle.heap_model.specs.Store.{owner_of, owner_under, store_of}
-use Rattle.heap_model.specs.declared.refusal.Refusal.TheVariants.{InvalidHandle, OwnedByDatabase, ChunkFixed}
-use Rattle.laws_store.proofs.Edited.{hidden, shown}
-use Rattle.palm_store.specs.EntryCalls.{MayBeGiven, checks_of_giving}
+use Rattle.palm_store.proofs.Words.{◌≡◌, ◌≢◌, ℕ, List, [], ◌∷◌, Option, Some, None, refl, sym, ap, subst, ◌∙◌, arith, inl, inr, IsSome, fixed_lock, data_owner, managers_owner, LiveChunk, held, not_owned, callers_map, Of, Check, ◌brings◌, NoneHolds, FirstBrings, owner_of, owner_under, store_of, InvalidHandle, OwnedByDatabase, ChunkFixed, hidden, shown, MayBeGiven, checks_of_giving}
 
 -- ---- the checks, by what the name stands for to callers
 

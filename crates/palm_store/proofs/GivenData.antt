@@ -1,42 +1,7 @@
 -- A caller's chunk that becomes the data of an entry: of a new one, or of one that hands over the
 -- data that it had.
-use Rattle.std.proofs.Common.{◌≡◌, ◌≢◌, ℕ, zero, suc, ◌+◌, ◌<◌, ◌≤◌, Bool, true, List, [], ◌∷◌, length, Option, Some, None, refl, sym, ap, subst, ◌∙◌, arith, rules, inl, inr}
-use Rattle.std.proofs.lemmas.Bool.{cases_eq}
-use Rattle.std.proofs.lemmas.List.Elements.{All-nil, All-cons}
-use Rattle.std.specs.Prelude.{IsSome, slice_get}
-use Rattle.heap_model.specs.Chunk.{need, fixed_lock, managers_owner, data_owner}
-use Rattle.heap_model.specs.Heap.{HeapAccepted, directory_of}
-use Rattle.heap_model.specs.Meaning.{LiveChunk, ChunkMap}
-use Rattle.heap_model.specs.Reading.{held}
-use Rattle.heap_model.specs.Lists.{same, times}
-use Rattle.heap_model.specs.Maps.{updated, changed, reowned, not_owned, callers_map}
-use Rattle.heap_model.specs.MemorySteps.{Of}
-use Rattle.heap_model.specs.Space.{rooms, ShortFor}
-use Rattle.heap_model.specs.Rooms.{growth_part, Stuck}
-use Rattle.heap_model.specs.DatabaseFields.{entry_size}
-use Rattle.heap_model.specs.Database.{Entry, a_record, a_resource, entry_data, entry_with, Database, data_in, spelled, has_resources, EntryFits}
-use Rattle.heap_model.specs.Store.{owner_of, bytes_under, owner_under, databases, Accepted, store_of}
-use Rattle.heap_model.specs.StoreWords.{with_changed}
-use Rattle.heap_model.specs.Counts.{IsSound}
-use Rattle.heap_model.specs.Leaving.{Leaves, Respells, rewritten, SpellsHere, database_here}
-use Rattle.heap_model.specs.EntrySteps.{most_entries, entries_in, data_under, resources_under, with_entry_at, entry_attached, data_exchanged, entry_swapped, raised, LeavesStore, MakesNone}
-use Rattle.heap_model.specs.declared.names.Db.{Db}
-use Rattle.laws_heap.proofs.Tests.{none_some, same_some}
-use Rattle.laws_heap.proofs.Meanings.{held-zero}
-use Rattle.laws_store.specs.Entries.{HasOwnId}
-use Rattle.laws_store.specs.Changes.{Change, IsCallersChange}
-use Rattle.laws_store.proofs.Entries.{inserted_sound, inserted_names, raised_sound, replaced_own, replaced_names, seeded_name}
-use Rattle.laws_store.proofs.Edited.{hidden, shown, one_change, edited, made_balance, exchanged_balance, apart as updated_apart}
-use Rattle.laws_store.proofs.EditedStores.{edit_steps, each_one}
-use Rattle.laws_store.proofs.Numbered.{accepted_sound, number_slot, number_held, data_here, entries_here, kind_here}
-use Rattle.laws_store.proofs.Owners.{directory_owner}
-use Rattle.laws_store.proofs.Parts.{one_grown}
-use Rattle.mem_manager.specs.Lookup.{IsMovable}
-use Rattle.database_edits.specs.Edits.{counted, entry_inserted, entry_written, HasNoRoomForEntry}
-use Rattle.palm_store.specs.Databases.{HasNumber}
-use Rattle.palm_store.specs.EntryInfos.{NewEntry, IsMadeOf}
-use Rattle.palm_store.specs.NewEntries.{TakesIn}
-use Rattle.palm_store.specs.EntryCalls.{MayBeGiven}
+use Rattle.palm_store.proofs.Words.{◌≡◌, ◌≢◌, ℕ, zero, suc, ◌+◌, ◌<◌, ◌≤◌, Bool, true, List, [], ◌∷◌, length, Option, Some, None, refl, sym, ap, subst, ◌∙◌, arith, rules, inl, inr, cases_eq, All-nil, All-cons, IsSome, slice_get, need, fixed_lock, managers_owner, data_owner, HeapAccepted, directory_of, LiveChunk, ChunkMap, held, same, times, updated, changed, reowned, not_owned, callers_map, Of, rooms, ShortFor, growth_part, Stuck, entry_size, Entry, a_record, a_resource, entry_data, entry_with, Database, data_in, spelled, has_resources, EntryFits, owner_of, bytes_under, owner_under, databases, Accepted, store_of, with_changed, IsSound, Leaves, Respells, rewritten, SpellsHere, database_here, most_entries, entries_in, data_under, resources_under, with_entry_at, entry_attached, data_exchanged, entry_swapped, raised, LeavesStore, MakesNone, Db, none_some, same_some, held-zero, HasOwnId, Change, IsCallersChange, inserted_sound, inserted_names, raised_sound, replaced_own, replaced_names, seeded_name, hidden, shown, one_change, edited, made_balance, exchanged_balance, edit_steps, each_one, accepted_sound, number_slot, number_held, data_here, entries_here, kind_here, directory_owner, one_grown, IsMovable, counted, entry_inserted, entry_written, HasNoRoomForEntry, HasNumber, NewEntry, IsMadeOf, TakesIn, MayBeGiven}
+use Rattle.laws_store.proofs.Edited.{apart as updated_apart}
 use Rattle.palm_store.proofs.Maps.{owner_held}
 use Rattle.palm_store.proofs.DataChunks.{for_data, data_callers}
 use Rattle.palm_store.proofs.EntryChanges.{name_apart, then_raised, unnamed, with_entry_set, set_is, slot_owner, slot_some}

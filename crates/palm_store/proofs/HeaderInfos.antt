@@ -1,29 +1,7 @@
 -- A header that is set: its bytes are written over the old ones, and nothing else changes.
-use Rattle.std.proofs.Common.{◌≡◌, ℕ, List, length, refl, sym, ap, subst, ◌∙◌, inl}
-use Rattle.heap_model.specs.Bytes.{overwritten}
-use Rattle.heap_model.specs.Memory.{Memory}
-use Rattle.heap_model.specs.Lending.{KeepsLoan}
-use Rattle.heap_model.specs.Reading.{held}
-use Rattle.heap_model.specs.Maps.{put}
-use Rattle.heap_model.specs.Leaving.{Leaves, database_here}
-use Rattle.heap_model.specs.Database.{DatabaseHeader, Entry, Database, has_resources, IsDatabaseName, IsSpelled, database_in}
-use Rattle.heap_model.specs.Store.{bytes_under, Accepted, store_of}
-use Rattle.heap_model.specs.StoreWords.{with_changed}
-use Rattle.heap_model.specs.DatabaseSteps.{IsTaken, header_set}
-use Rattle.heap_model.specs.StoreSteps.{DoesInStore}
-use Rattle.heap_model.specs.Counts.{IsSound}
-use Rattle.heap_model.specs.declared.names.Db.{Db}
-use Rattle.heap_model.specs.declared.database.DbInfo.{DbInfo}
-use Rattle.heap_model.specs.declared.call.DatabaseCall.TheVariants.{SetInfo}
+use Rattle.palm_store.proofs.Words.{◌≡◌, ℕ, List, length, refl, sym, ap, subst, ◌∙◌, inl, overwritten, Memory, KeepsLoan, held, put, Leaves, database_here, DatabaseHeader, Entry, Database, has_resources, IsDatabaseName, IsSpelled, database_in, bytes_under, Accepted, store_of, with_changed, IsTaken, header_set, DoesInStore, IsSound, Db, DbInfo, SetInfo, HasStore, accepted_sound, put_respells, rename_steps, DbHeader, header_values, IsHeaderOf, with_header, WritesHeader, HasNumber}
 use Rattle.heap_model.specs.declared.call.Call.TheVariants as calls
 use Rattle.heap_model.specs.declared.call.Reply.TheVariants as replies
-use Rattle.laws_store.specs.Changes.{HasStore}
-use Rattle.laws_store.proofs.Numbered.{accepted_sound}
-use Rattle.laws_store.proofs.Edited.{put_respells}
-use Rattle.laws_store.proofs.EditedStores.{rename_steps}
-use Rattle.db_format.specs.declared.header.DbHeader.{DbHeader}
-use Rattle.db_format.specs.Headers.{header_values, IsHeaderOf, with_header, WritesHeader}
-use Rattle.palm_store.specs.Databases.{HasNumber}
 use Rattle.palm_store.proofs.Numbers.{has_number_is}
 use Rattle.palm_store.specs.HeaderInfos.{KeepsEntries}
 

@@ -1,28 +1,7 @@
 -- A database gets an info block, which was a caller's chunk, or has one no longer, which a caller
 -- gets.
-use Rattle.std.proofs.Common.{◌≡◌, ◌≢◌, ℕ, ◌+◌, ◌<◌, List, ◌∷◌, map, refl, sym, ap, subst, ◌∙◌, arith, inl, inr}
-use Rattle.std.specs.Prelude.{◌⊎◌}
-use Rattle.heap_model.specs.Chunk.{data_owner}
-use Rattle.heap_model.specs.Bytes.{u32_at}
-use Rattle.heap_model.specs.Heap.{directory_of}
-use Rattle.heap_model.specs.Reading.{held}
-use Rattle.heap_model.specs.Lists.{same, times}
-use Rattle.heap_model.specs.Maps.{reowned, callers_map}
-use Rattle.heap_model.specs.Database.{entry_data, Database, data_in, database_in, spelled, DatabaseFits}
-use Rattle.heap_model.specs.Store.{owner_under, IsInfoBlock, databases, Accepted, store_of}
-use Rattle.heap_model.specs.StoreWords.{with_changed}
-use Rattle.heap_model.specs.Counts.{IsSound}
-use Rattle.heap_model.specs.Leaving.{Leaves, Respells, rewritten, database_here}
-use Rattle.heap_model.specs.DatabaseSteps.{info_block, with_info_block, info_block_of, info_block_under, info_block_set, info_block_taken}
-use Rattle.heap_model.specs.EntrySteps.{raised, LeavesStore}
-use Rattle.heap_model.specs.declared.names.Db.{Db}
-use Rattle.heap_model.specs.declared.names.Which.{Which}
+use Rattle.palm_store.proofs.Words.{◌≡◌, ◌≢◌, ℕ, ◌+◌, ◌<◌, List, ◌∷◌, map, refl, sym, ap, subst, ◌∙◌, arith, inl, inr, ◌⊎◌, data_owner, u32_at, directory_of, held, same, times, reowned, callers_map, entry_data, Database, data_in, database_in, spelled, DatabaseFits, owner_under, IsInfoBlock, databases, Accepted, store_of, with_changed, IsSound, Leaves, Respells, rewritten, database_here, info_block, with_info_block, info_block_of, info_block_under, info_block_set, info_block_taken, raised, LeavesStore, Db, Which, times-cons, same-no, accepted_sound, number_database, number_here, IsMovable, HasNumber, with_block}
 use Rattle.heap_model.specs.declared.names.Which.TheVariants.{App, Sort}
-use Rattle.laws_store.proofs.Times.{times-cons, same-no}
-use Rattle.laws_store.proofs.Numbered.{accepted_sound, number_database, number_here}
-use Rattle.mem_manager.specs.Lookup.{IsMovable}
-use Rattle.palm_store.specs.Databases.{HasNumber}
-use Rattle.database_edits.specs.Edits.{with_block}
 use Rattle.palm_store.proofs.DataChunks.{for_data, data_movable, data_no_directory}
 use Rattle.palm_store.proofs.EntryChanges.{name_apart, then_raised}
 use Rattle.palm_store.proofs.TwoSteps.{rewritten_apart}

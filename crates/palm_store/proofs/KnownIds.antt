@@ -1,33 +1,10 @@
 -- IDs that are known to be free: which changes of a store leave them free.
-use Rattle.std.proofs.Common.{◌≡◌, ◌≢◌, ◌≤◌, ◌++◌, ℕ, suc, List, [], ◌∷◌, length, take, drop, Option, Some, None, Bool, true, false, ◌+◌, ◌-◌, ◌⊎◌, set, subst, refl, sym, ap, ◌∙◌, arith, inl, inr}
-use Rattle.std.proofs.lemmas.Bool.{cases_eq, cases_lt, eq-eqb, ne_eqb}
-use Rattle.std.proofs.lemmas.List.{drop_all, take_all, append-nil, take-append-drop}
-use Rattle.std.proofs.Math.Seq.{take-nil}
-use Rattle.std.proofs.lemmas.List.Sums.{sum_by-insert, sum_by-remove, sum_by-set, get_or-le-sum_by}
-use Rattle.std.proofs.lemmas.Option.{slice_get_within, get_or_from_slice_get}
-use Rattle.std.specs.Prelude.{◌==◌, slice_get, slice_range}
-use Rattle.std.specs.List.{find, filter_map, remove, insert_slice}
-use Rattle.heap_model.specs.Lists.{times, insertion_index, moved}
-use Rattle.heap_model.specs.Database.{Database, Entry, a_record, a_resource, entry_with, database_in}
-use Rattle.heap_model.specs.Store.{StoredDatabase, Store, unique_id, unique_ids, bytes_under, Accepted, store_of}
-use Rattle.heap_model.specs.StoreWords.{with_changed, with_number}
-use Rattle.heap_model.specs.EntrySteps.{entries_of, with_entry_at, raised_header, HasId, replaced, replaced_if, entry_changed, without_data}
-use Rattle.heap_model.specs.declared.names.Db.{Db}
-use Rattle.laws_heap.proofs.Tests.{cond-true, cond-false}
-use Rattle.laws_store.proofs.Times.{same-yes, same-no}
-use Rattle.laws_store.proofs.Entries.{replaced_is}
+use Rattle.palm_store.proofs.Words.{◌≡◌, ◌≢◌, ◌≤◌, ◌++◌, ℕ, suc, List, [], ◌∷◌, length, take, drop, Option, Some, None, Bool, true, false, ◌+◌, ◌-◌, set, subst, refl, sym, ap, ◌∙◌, arith, inl, inr, cases_eq, cases_lt, eq-eqb, ne_eqb, drop_all, take_all, append-nil, take-append-drop, take-nil, sum_by-insert, sum_by-remove, sum_by-set, get_or-le-sum_by, slice_get_within, get_or_from_slice_get, ◌==◌, slice_get, slice_range, find, filter_map, remove, insert_slice, times, insertion_index, moved, Database, Entry, a_record, a_resource, entry_with, database_in, StoredDatabase, Store, unique_id, unique_ids, bytes_under, Accepted, store_of, with_changed, with_number, entries_of, with_entry_at, raised_header, HasId, replaced, replaced_if, entry_changed, without_data, Db, cond-true, cond-false, same-yes, same-no, replaced_is, has_id, times-ids, entries_here, attributes_changed, HasNumber, with_info, raised_if, ids_in, StandFree, StandFreeBeside, GetsNone, IsStore, KnownIds}
+use Rattle.std.proofs.Common.{◌⊎◌}
 use Rattle.laws_store.proofs.MovedElements.{sum_by-moved}
-use Rattle.laws_store.proofs.NameCounts.{has_id, times-ids}
-use Rattle.laws_store.proofs.Numbered.{entries_here}
 use Rattle.fresh_ids.specs.FreeIds.{IsInRange, AreFree, IsWithout}
 use Rattle.fresh_ids.specs.declared.stretch.FreeIds.{FreeIds}
-use Rattle.database_edits.specs.Recorded.{attributes_changed}
-use Rattle.palm_store.specs.Databases.{HasNumber}
 use Rattle.palm_store.specs.declared.entries.infos.EntryInfo.TheVariants as infos
-use Rattle.palm_store.specs.EntryInfos.{with_info}
-use Rattle.palm_store.specs.EntryCalls.{raised_if}
-use Rattle.palm_store.specs.KnownIds.{ids_in, StandFree, StandFreeBeside, GetsNone, IsStore}
-use Rattle.palm_store.specs.declared.entries.known.KnownIds.{KnownIds}
 use Rattle.palm_store.proofs.AttributeChanges.{ids_kept}
 
 -- no ID at all is known to be free

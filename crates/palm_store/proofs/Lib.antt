@@ -1,3 +1,4 @@
+pub mod Words
 mod MemoryCalls
 pub mod Numbers
 pub mod Lookups
@@ -36,3 +37,4 @@ pub mod SearchLaws
 pub mod Rests
 pub mod Loans
 pub mod LoansBack
+pub mod Laws

@@ -1,40 +1,7 @@
 -- A slot listed last in the directory, and a chunk that was made for a header.
-use Rattle.std.proofs.Common.{◌≡◌, ◌≢◌, ℕ, ◌+◌, ◌-◌, ◌*◌, ◌/◌, ◌<◌, ◌≤◌, Bool, true, false, List, [], ◌∷◌, ◌++◌, length, take, drop, replicate, Option, Some, None, refl, sym, ap, subst, ◌∙◌, arith, length-append, inl, inr}
-use Rattle.std.proofs.lemmas.Bool.{both_ways, cases_eq, eq-eqb, ne_eqb}
-use Rattle.std.proofs.lemmas.List.FromFn.{length-map-range_with_len}
-use Rattle.std.specs.Prelude.{◌⊎◌, ◌==◌, if◌then◌else◌}
-use Rattle.std.proofs.lemmas.List.{append-nil, take_all, drop_all, length-replicate}
-use Rattle.std.proofs.Math.Seq.{take-append_seam}
-use Rattle.heap_model.specs.Bytes.{u32_at, u32_bytes, overwritten, sized_to}
-use Rattle.heap_model.specs.Heap.{HeapAccepted, directory_of}
-use Rattle.heap_model.specs.Memory.{Memory}
-use Rattle.heap_model.specs.Lending.{IsLent}
-use Rattle.heap_model.specs.Meaning.{LiveChunk}
-use Rattle.heap_model.specs.Reading.{chunks_of, held}
+use Rattle.palm_store.proofs.Words.{◌≡◌, ◌≢◌, ℕ, ◌+◌, ◌-◌, ◌*◌, ◌/◌, ◌<◌, ◌≤◌, Bool, true, false, List, [], ◌∷◌, ◌++◌, length, take, drop, replicate, Option, Some, None, refl, sym, ap, subst, ◌∙◌, arith, length-append, inl, inr, both_ways, cases_eq, eq-eqb, ne_eqb, length-map-range_with_len, ◌⊎◌, ◌==◌, if◌then◌else◌, append-nil, take_all, drop_all, length-replicate, take-append_seam, u32_at, u32_bytes, overwritten, sized_to, HeapAccepted, directory_of, Memory, IsLent, LiveChunk, chunks_of, held, Chunk, need, Still, place_under, free_slots, free_behind, rooms, ShortFor, changed, gone, put, sized, bytes_under, directory_bytes, owner_under, Accepted, listed, Leaves, NamesDirectory, frame_then, length-u32_bytes, MakesNew, directory_owner, managers_loose, made_then_none, slots_made, directory_like, Lowers, Part, makes, growth_part, Stuck, header_size, create_parts, create_slots, FirstBrings, Of, IsLocked, growth_checks, Refusal, NotEnoughSpace, made_then_short, IsMovable, all_written, ListsLast, ListsNew, HasNoRoomToList}
 use Rattle.heap_model.specs.Slots.{area_start}
-use Rattle.heap_model.specs.Chunk.{Chunk, need}
-use Rattle.heap_model.specs.Space.{Still, place_under, free_slots, free_behind, rooms, ShortFor}
-use Rattle.heap_model.specs.Maps.{changed, gone, put, sized}
-use Rattle.heap_model.specs.Store.{bytes_under, directory_bytes, owner_under, Accepted, listed}
-use Rattle.heap_model.specs.Leaving.{Leaves, NamesDirectory}
-use Rattle.laws_heap.proofs.SameLayouts.{frame_then}
 use Rattle.laws_heap.proofs.Directory.{named_start}
-use Rattle.laws_heap.proofs.Frames.{length-u32_bytes}
-use Rattle.mem_manager.specs.Lookup.{MakesNew}
-use Rattle.laws_store.proofs.Owners.{directory_owner}
-use Rattle.laws_store.proofs.NewDatabases.{managers_loose, made_then_none, slots_made}
-use Rattle.laws_store.proofs.KeptDatabases.{directory_like}
-use Rattle.heap_model.specs.Rooms.{Lowers, Part, makes, growth_part, Stuck}
-use Rattle.heap_model.specs.DatabaseFields.{header_size}
-use Rattle.heap_model.specs.DatabaseSteps.{create_parts, create_slots}
-use Rattle.heap_model.specs.Refusals.{FirstBrings}
-use Rattle.heap_model.specs.MemorySteps.{Of, IsLocked, growth_checks}
-use Rattle.heap_model.specs.declared.refusal.Refusal.{Refusal}
-use Rattle.heap_model.specs.declared.refusal.Refusal.TheVariants.{NotEnoughSpace}
-use Rattle.laws_store.proofs.Parts.{made_then_short}
-use Rattle.mem_manager.specs.Lookup.{IsMovable}
-use Rattle.mem_manager.proofs.StoreCalls.{all_written}
-use Rattle.palm_store.specs.Directory.{ListsLast, ListsNew, HasNoRoomToList}
 use Rattle.laws_store.proofs.Edited.{here as updated_here, apart as updated_apart}
 use Rattle.palm_store.proofs.Numbers.{no_directory}
 use Rattle.palm_store.proofs.Maps.{owner_none, bytes_held, Owned, owned, held_some, still_through, kept_apart, none_loose}

@@ -1,34 +1,12 @@
 -- What is not lent: chunks of the manager's, and those without a lock.
-use Rattle.std.proofs.Common.{[], ◌≡◌, ◌≢◌, ℕ, ◌<◌, List, Option, Some, refl, sym, ap, subst, ◌∙◌, arith, inl, inr}
-use Rattle.std.proofs.lemmas.Bool.{cases_eq}
-use Rattle.heap_model.specs.Memory.{Memory, Lent, SomeLent}
-use Rattle.heap_model.specs.Heap.{HeapAccepted, directory_of}
-use Rattle.heap_model.specs.Space.{place_of}
-use Rattle.heap_model.specs.Lending.{IsLent}
-use Rattle.heap_model.specs.Meaning.{LiveChunk}
-use Rattle.heap_model.specs.MemorySteps.{Of, IsLocked}
-use Rattle.heap_model.specs.Reading.{held}
-use Rattle.heap_model.specs.Store.{owner_under, Accepted}
-use Rattle.laws_store.proofs.Owners.{directory_owner}
-use Rattle.mem_manager.specs.Lookup.{Found, IsHere, IsMovable, StandsAs}
+use Rattle.palm_store.proofs.Words.{[], ◌≡◌, ◌≢◌, ℕ, ◌<◌, List, Option, Some, refl, sym, ap, subst, ◌∙◌, arith, inl, inr, cases_eq, Memory, SomeLent, HeapAccepted, directory_of, place_of, IsLent, LiveChunk, Of, IsLocked, held, owner_under, Accepted, directory_owner, Found, IsHere, IsMovable, StandsAs, lock_viewed, HasNumber, Ok, Err, IfOk, OnErr, managers_owner, callers_map, bytes_of, bytes_under, store_of, Name, Refusal, shown, OnLoan, KnownIds, IsStore, TakesOutOfStore}
+use Rattle.heap_model.specs.Memory.{Lent}
 use Rattle.mem_manager.proofs.ChunkCalls.{lock_small}
-use Rattle.mem_manager.proofs.StoreCalls.{lock_viewed}
-use Rattle.palm_store.specs.Databases.{HasNumber}
 use Rattle.palm_store.proofs.Maps.{owner_held}
 use Rattle.palm_store.proofs.Numbers.{number_slot}
-use Rattle.std.specs.Prelude.{Result, Ok, Err, IfOk, OnErr, None, replicate, length}
-use Rattle.heap_model.specs.Chunk.{managers_owner}
-use Rattle.heap_model.specs.Maps.{callers_map}
-use Rattle.heap_model.specs.Store.{bytes_of, bytes_under, store_of}
-use Rattle.heap_model.specs.declared.names.Name.{Name}
-use Rattle.heap_model.specs.declared.refusal.Refusal.{Refusal}
-use Rattle.laws_store.proofs.Edited.{shown}
+use Rattle.std.specs.Prelude.{Result, None, replicate, length}
 use Rattle.laws_store.proofs.MemoryCalls.{known_owner}
 use Rattle.mem_manager.specs.Loans as loans
-use Rattle.mem_manager.specs.Loans.{OnLoan}
-use Rattle.palm_store.specs.declared.entries.known.KnownIds.{KnownIds}
-use Rattle.palm_store.specs.KnownIds.{IsStore}
-use Rattle.palm_store.specs.Loans.{TakesOutOfStore}
 use Rattle.palm_store.proofs.FilledData.{rewritten_steps}
 use Rattle.palm_store.proofs.KnownIds.{stand_still}
 

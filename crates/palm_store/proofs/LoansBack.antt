@@ -1,14 +1,8 @@
 -- Bytes that are out of a store stay out while calls are done. Once they are back, what is lent is
 -- what was lent before.
-use Rattle.std.proofs.Common.{◌≡◌, length, sym, ap, subst, ◌∙◌}
+use Rattle.palm_store.proofs.Words.{◌≡◌, length, sym, ap, subst, ◌∙◌, Memory, KeepsLoan, place_of, Name, OnLoan, IsOutUnder, TakesOutOfStore, PutsBackInStore}
 use Rattle.std.specs.Prelude.{Some}
-use Rattle.heap_model.specs.Memory.{Memory}
-use Rattle.heap_model.specs.Lending.{KeepsLoan}
-use Rattle.heap_model.specs.Space.{place_of}
-use Rattle.heap_model.specs.declared.names.Name.{Name}
-use Rattle.mem_manager.specs.Loans.{OnLoan, IsOutUnder}
 use Rattle.mem_manager.proofs.OutLaws.{out_stays, back_restores}
-use Rattle.palm_store.specs.Loans.{TakesOutOfStore, PutsBackInStore}
 
 -- The loan's part is out still after calls that keep it. It may have other bytes, but as many.
 pub still_out : (old out done : Memory) (name : Name) (loan other : OnLoan) → TakesOutOfStore old out name loan → done.lents ≡ out.lents → KeepsLoan out done → other.name ≡ loan.name → other.part.start ≡ loan.part.start → length other.part.bytes ≡ length loan.part.bytes → IsOutUnder done other.name.0 other.part

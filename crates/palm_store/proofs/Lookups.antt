@@ -1,31 +1,8 @@
 -- Calls that ask of the databases of a store. They leave the region as it is, so of each its
 -- refusals and its answer are left to show.
-use Rattle.std.proofs.Common.{◌≡◌, ◌≢◌, ℕ, ◌<◌, ◌≤◌, List, length, map, get_or, Bool, Option, Some, None, Result, refl, sym, ap, subst, ◌∙◌, arith, inl}
-use Rattle.std.proofs.lemmas.List.Elements.{All-map}
-use Rattle.std.proofs.lemmas.Grind.{get_or_default_zero}
-use Rattle.std.proofs.lemmas.Option.{slice_get-get_or}
-use Rattle.std.specs.Prelude.{◌↔◌, All, slice_get, IsTrue, IfSome, IfNone}
-use Rattle.std.specs.Option.{is_some, ok_or}
-use Rattle.heap_model.specs.Memory.{Memory}
-use Rattle.heap_model.specs.Database.{DatabaseHeader, Database, header_in, database_in}
-use Rattle.heap_model.specs.Store.{StoredDatabase, bytes_under, listed, database_under, databases, numbers_of, names_of, Accepted, store_of}
-use Rattle.heap_model.specs.DatabaseSteps.{IsTaken, info_of}
-use Rattle.heap_model.specs.MemorySteps.{reply_of}
-use Rattle.heap_model.specs.StoreSteps.{DoesInStore}
-use Rattle.heap_model.specs.declared.names.Db.{Db}
-use Rattle.heap_model.specs.declared.database.DbInfo.{DbInfo}
-use Rattle.heap_model.specs.declared.call.DatabaseCall.TheVariants.{Find, Nth, Count, Info}
+use Rattle.palm_store.proofs.Words.{◌≡◌, ◌≢◌, ℕ, ◌<◌, ◌≤◌, List, length, map, get_or, Bool, Option, Some, None, Result, refl, sym, ap, subst, ◌∙◌, arith, inl, All-map, get_or_default_zero, slice_get-get_or, ◌↔◌, All, slice_get, IsTrue, IfSome, IfNone, is_some, ok_or, Memory, DatabaseHeader, Database, header_in, database_in, StoredDatabase, bytes_under, listed, database_under, databases, numbers_of, names_of, Accepted, store_of, IsTaken, info_of, reply_of, DoesInStore, Db, DbInfo, Find, Nth, Count, Info, Refusal, NoSuchDatabase, all-times, map-All, listed_numbers, asks, same_store, refused, DbHeader, IsHeaderOf, info_told, HasNumber, HasOtherName, name_under, number_some}
 use Rattle.heap_model.specs.declared.call.Call.TheVariants as calls
 use Rattle.heap_model.specs.declared.call.Reply.TheVariants as replies
-use Rattle.heap_model.specs.declared.refusal.Refusal.{Refusal}
-use Rattle.heap_model.specs.declared.refusal.Refusal.TheVariants.{NoSuchDatabase}
-use Rattle.laws_store.proofs.Times.{all-times, map-All}
-use Rattle.laws_store.proofs.Counts.{listed_numbers}
-use Rattle.laws_store.proofs.CallSteps.{asks, same_store, refused}
-use Rattle.db_format.specs.declared.header.DbHeader.{DbHeader}
-use Rattle.db_format.specs.Headers.{IsHeaderOf, info_told}
-use Rattle.palm_store.specs.Databases.{HasNumber, HasOtherName, name_under}
-use Rattle.laws_store.proofs.Numbered.{number_some}
 use Rattle.palm_store.proofs.Numbers.{number_listed, has_number_is, in_store, length-databases, database_at, listed_at, number_of_slot}
 
 -- ---- by name

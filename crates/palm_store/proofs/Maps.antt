@@ -1,18 +1,5 @@
 -- What names stand for after one of them changed, and what stays where it is through two calls.
-use Rattle.std.proofs.Common.{◌≡◌, ◌≢◌, ℕ, ◌<◌, List, Option, Some, None, refl, sym, ap, ◌∙◌, arith}
-use Rattle.std.proofs.lemmas.Bool.{eq-eqb, ne_eqb}
-use Rattle.std.specs.Prelude.{◌==◌}
-use Rattle.std.specs.Option.{is_some}
-use Rattle.heap_model.specs.Heap.{HeapAccepted}
-use Rattle.heap_model.specs.Meaning.{LiveChunk, ChunkMap}
-use Rattle.heap_model.specs.Reading.{held}
-use Rattle.heap_model.specs.Space.{Still}
-use Rattle.heap_model.specs.Lists.{times}
-use Rattle.heap_model.specs.Leaving.{Leaves}
-use Rattle.heap_model.specs.Store.{bytes_of, owner_of, bytes_under, owner_under}
-use Rattle.heap_model.specs.StoreWords.{all_gone}
-use Rattle.laws_heap.proofs.Tests.{cond-true, cond-false}
-use Rattle.laws_store.proofs.Owners.{owned_some}
+use Rattle.palm_store.proofs.Words.{◌≡◌, ◌≢◌, ℕ, ◌<◌, List, Option, Some, None, refl, sym, ap, ◌∙◌, arith, eq-eqb, ne_eqb, ◌==◌, is_some, HeapAccepted, LiveChunk, ChunkMap, held, Still, times, Leaves, bytes_of, owner_of, bytes_under, owner_under, all_gone, cond-true, cond-false, owned_some}
 
 -- ---- a map without some names
 

@@ -1,15 +1,9 @@
 -- A call of the memory manager on the heap inside is one on the store, whose value is the heap's.
-use Rattle.std.proofs.Common.{◌≡◌, subst}
-use Rattle.heap_model.specs.Memory.{Memory}
-use Rattle.heap_model.specs.MemorySteps.{MemoryCall, Does}
-use Rattle.heap_model.specs.Store.{Accepted, store_of}
-use Rattle.heap_model.specs.StoreSteps.{Call, StoreStep, DoesInStore}
+use Rattle.palm_store.proofs.Words.{◌≡◌, subst, Memory, MemoryCall, Does, Accepted, store_of, Call, StoreStep, DoesInStore, IsStore, KnownIds}
 use Rattle.heap_model.specs.declared.call.Call.TheVariants as calls
 use Rattle.heap_model.specs.declared.call.Reply.{Reply}
 use Rattle.heap_model.specs.declared.call.Reply.TheVariants as replies
 use Rattle.laws_store.proofs.LiftedCalls.{memory_call_steps}
-use Rattle.palm_store.specs.KnownIds.{IsStore}
-use Rattle.palm_store.specs.declared.entries.known.KnownIds.{KnownIds}
 use Rattle.palm_store.proofs.KnownIds.{stand_still}
 
 -- a call that may change the heap

@@ -1,37 +1,7 @@
 -- The chunks that a database names: they are for data, each is named once, and all of them are
 -- freed.
-use Rattle.std.proofs.Common.{◌≡◌, ◌≢◌, ℕ, suc, ◌+◌, ◌-◌, ◌<◌, ◌≤◌, List, [], ◌∷◌, ◌++◌, length, get_or, take, drop, Option, Some, None, refl, sym, ap, subst, ◌∙◌, arith, inl, inr}
-use Rattle.std.proofs.lemmas.Bool.{cases_eq}
-use Rattle.std.proofs.lemmas.List.{take-append-drop, take_more, get_or-map, length-map}
-use Rattle.std.proofs.lemmas.List.FromFn.{length-map-range_with_len, get_or-map-range_with_len}
-use Rattle.std.proofs.lemmas.Grind.{get_or_default_zero}
-use Rattle.std.specs.Prelude.{IsSome, Any}
-use Rattle.std.specs.Option.{is_some}
-use Rattle.heap_model.specs.Bytes.{u32_at}
-use Rattle.heap_model.specs.DatabaseFields.{header_size, app_info_at, sort_info_at}
-use Rattle.heap_model.specs.Heap.{HeapAccepted, directory_of}
-use Rattle.heap_model.specs.Meaning.{LiveChunk, ChunkMap}
-use Rattle.heap_model.specs.Reading.{held}
-use Rattle.heap_model.specs.Maps.{gone, not_owned, callers_map}
-use Rattle.heap_model.specs.Lists.{same, times}
-use Rattle.heap_model.specs.Leaving.{Leaves}
-use Rattle.heap_model.specs.Database.{entry_data, data_in, database_in, entry_in, entry_count_in, resources_in, entry_offset, IsSpelled}
-use Rattle.heap_model.specs.Store.{bytes_under, owner_of, owner_under, database_under, Accepted}
-use Rattle.heap_model.specs.MemorySteps.{Of, IsLocked}
-use Rattle.heap_model.specs.StoreWords.{all_gone}
-use Rattle.laws_heap.proofs.SameLayouts.{same_frame, frame_then}
-use Rattle.laws_heap.proofs.FoundChunks.{callers_some}
-use Rattle.laws_heap.proofs.Meanings.{held-zero}
-use Rattle.laws_store.proofs.Times.{same-yes, same-no, times-cons, times-append, times-some}
-use Rattle.laws_store.proofs.Owners.{directory_owner}
-use Rattle.laws_store.proofs.KeptDatabases.{bytes_like}
-use Rattle.laws_store.proofs.Counts.{same-is, same-least}
-use Rattle.laws_store.proofs.Numbered.{number_some}
-use Rattle.laws_store.proofs.Shapes.{offset_below, spelled_shape}
-use Rattle.mem_manager.specs.Lookup.{IsMovable}
-use Rattle.palm_store.specs.Databases.{HasNumber}
+use Rattle.palm_store.proofs.Words.{◌≡◌, ◌≢◌, ℕ, suc, ◌+◌, ◌-◌, ◌<◌, ◌≤◌, List, [], ◌∷◌, ◌++◌, length, get_or, take, drop, Option, Some, None, refl, sym, ap, subst, ◌∙◌, arith, inl, inr, cases_eq, take-append-drop, take_more, get_or-map, length-map, length-map-range_with_len, get_or-map-range_with_len, get_or_default_zero, IsSome, Any, is_some, u32_at, header_size, app_info_at, sort_info_at, HeapAccepted, directory_of, LiveChunk, ChunkMap, held, gone, not_owned, callers_map, same, times, Leaves, entry_data, data_in, database_in, entry_in, entry_count_in, resources_in, entry_offset, IsSpelled, bytes_under, owner_of, owner_under, database_under, Accepted, Of, IsLocked, all_gone, same_frame, frame_then, callers_some, held-zero, same-yes, same-no, times-cons, times-append, times-some, directory_owner, bytes_like, same-is, same-least, number_some, offset_below, spelled_shape, IsMovable, HasNumber, named_under}
 use Rattle.palm_store.proofs.Numbers.{stands, listed_at, number_slot}
-use Rattle.palm_store.specs.Databases.{named_under}
 use Rattle.palm_store.proofs.DataChunks.{for_data, data_movable}
 use Rattle.palm_store.proofs.Deletion.{named_most}
 use Rattle.laws_store.proofs.Edited.{here as updated_here, apart as updated_apart}

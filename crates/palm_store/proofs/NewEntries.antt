@@ -1,41 +1,8 @@
 -- A new entry that came to a database with a chunk for its data, or found no room.
-use Rattle.std.proofs.Common.{◌≡◌, ◌≢◌, ℕ, ◌+◌, ◌<◌, ◌≤◌, Bool, List, [], ◌∷◌, length, replicate, Option, Some, None, refl, sym, ap, subst, ◌∙◌, arith, inl, inr}
-use Rattle.std.proofs.lemmas.Bool.{cases_eq}
-use Rattle.std.specs.Prelude.{◌⊎◌}
-use Rattle.heap_model.specs.Memory.{Memory}
-use Rattle.heap_model.specs.Chunk.{need, data_owner}
-use Rattle.heap_model.specs.Heap.{HeapAccepted, directory_of}
-use Rattle.heap_model.specs.Meaning.{LiveChunk}
-use Rattle.heap_model.specs.Reading.{held}
-use Rattle.heap_model.specs.Maps.{gone, made, callers_map}
-use Rattle.heap_model.specs.Space.{free_slots, rooms, ShortFor}
-use Rattle.heap_model.specs.Rooms.{Lowers, making, growth_part, Stuck}
-use Rattle.heap_model.specs.DatabaseFields.{entry_size}
-use Rattle.heap_model.specs.Database.{Entry, a_record, a_resource, entry_data, entry_with, Database, database_in, spelled, EntryFits, IsSpelled}
-use Rattle.heap_model.specs.Store.{owner_of, bytes_under, owner_under, databases, unique_ids, Accepted, store_of}
+use Rattle.palm_store.proofs.Words.{◌≡◌, ◌≢◌, ℕ, ◌+◌, ◌<◌, ◌≤◌, Bool, List, [], ◌∷◌, length, replicate, Option, Some, None, refl, sym, ap, subst, ◌∙◌, arith, inl, inr, cases_eq, ◌⊎◌, Memory, need, data_owner, HeapAccepted, directory_of, LiveChunk, held, gone, made, callers_map, free_slots, rooms, ShortFor, Lowers, making, growth_part, Stuck, entry_size, Entry, a_record, a_resource, entry_data, entry_with, Database, database_in, spelled, EntryFits, IsSpelled, owner_of, bytes_under, owner_under, databases, unique_ids, Accepted, store_of, NamesData, Leaves, Respells, rewritten, SpellsHere, database_here, most_entries, entries_in, resources_under, with_entry_at, entry_made, raised, LeavesStore, StoreAsBefore, Db, frame_then, as_before, MakesNew, HasNewId, managers_loose, fresh_new, inserted_sound, inserted_names, raised_sound, seeded_name, one_change, edit_steps, made_edit, same_steps, accepted_sound, in_here, in_store, entries_here, kind_here, owned_some, directory_owner, made_then_short, entry_inserted, HasNoRoomForEntry, HasNumber, NewEntry, IsMadeOf, PutsIn, bytes_like}
 use Rattle.heap_model.specs.UniqueIds.{IsFresh, seed_in}
-use Rattle.heap_model.specs.Counts.{NamesData}
-use Rattle.heap_model.specs.Leaving.{Leaves, Respells, rewritten, SpellsHere, database_here}
-use Rattle.heap_model.specs.EntrySteps.{most_entries, entries_in, resources_under, with_entry_at, entry_made, raised, LeavesStore}
-use Rattle.heap_model.specs.StoreSteps.{StoreAsBefore}
-use Rattle.heap_model.specs.declared.names.Db.{Db}
-use Rattle.laws_heap.proofs.SameLayouts.{frame_then}
-use Rattle.laws_heap.proofs.FreeCounts.{as_before}
-use Rattle.mem_manager.specs.Lookup.{MakesNew}
-use Rattle.laws_store.specs.Entries.{HasNewId}
-use Rattle.laws_store.proofs.NewDatabases.{managers_loose}
-use Rattle.laws_store.proofs.Entries.{fresh_new, inserted_sound, inserted_names, raised_sound, seeded_name}
-use Rattle.laws_store.proofs.Edited.{one_change, here as updated_here, apart as updated_apart}
-use Rattle.laws_store.proofs.EditedStores.{edit_steps, made_edit, same_steps}
-use Rattle.laws_store.proofs.Numbered.{accepted_sound, in_here, in_store, entries_here, kind_here}
-use Rattle.laws_store.proofs.Owners.{owned_some, directory_owner}
-use Rattle.laws_store.proofs.Parts.{made_then_short}
-use Rattle.database_edits.specs.Edits.{entry_inserted, HasNoRoomForEntry}
-use Rattle.palm_store.specs.Databases.{HasNumber}
+use Rattle.laws_store.proofs.Edited.{here as updated_here, apart as updated_apart}
 use Rattle.palm_store.specs.declared.entries.infos.EntryInfo.TheVariants as new
-use Rattle.palm_store.specs.EntryInfos.{NewEntry, IsMadeOf}
-use Rattle.palm_store.specs.NewEntries.{PutsIn}
-use Rattle.laws_store.proofs.KeptDatabases.{bytes_like}
 use Rattle.palm_store.proofs.EntryChanges.{then_raised}
 use Rattle.palm_store.proofs.TwoSteps.{then_respelled, database_kept, still_between}
 

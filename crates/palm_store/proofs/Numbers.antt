@@ -1,25 +1,6 @@
 -- The databases of an accepted image by their numbers: which names of chunks are numbers, and what
 -- stands under one.
-use Rattle.std.proofs.Common.{◌≡◌, ◌≢◌, ℕ, ◌*◌, ◌/◌, ◌<◌, List, [], length, get_or, None, sym, ap, ◌∙◌, arith, inl, inr}
-use Rattle.std.proofs.lemmas.Bool.{cases_lt}
-use Rattle.std.proofs.lemmas.List.{get_or-map, length-map}
-use Rattle.std.proofs.lemmas.List.FromFn.{length-map-range_with_len, get_or-map-range_with_len}
-use Rattle.std.proofs.lemmas.Grind.{get_or_default_zero}
-use Rattle.heap_model.specs.Chunk.{managers_owner}
-use Rattle.heap_model.specs.Bytes.{u32_at}
-use Rattle.heap_model.specs.Heap.{HeapAccepted, directory_of}
-use Rattle.heap_model.specs.Reading.{held}
-use Rattle.heap_model.specs.Lists.{times}
-use Rattle.heap_model.specs.Database.{database_in, HasShape}
-use Rattle.heap_model.specs.Store.{StoredDatabase, bytes_of, owner_of, bytes_under, owner_under, directory_bytes, listed, database_under, databases, IsHeaderSlot, Accepted, store_of}
-use Rattle.heap_model.specs.StoreWords.{with_number}
-use Rattle.laws_heap.proofs.Meanings.{held-zero}
-use Rattle.laws_store.proofs.Times.{times-some, times-contained, contained-times}
-use Rattle.laws_store.proofs.Shapes.{spelled_shape}
-use Rattle.laws_store.proofs.Owners.{directory_owner}
-use Rattle.mem_manager.specs.Lookup.{IsMovable}
-use Rattle.database_edits.proofs.Chunks.{is_movable}
-use Rattle.palm_store.specs.Databases.{HasNumber, IsListedAt}
+use Rattle.palm_store.proofs.Words.{◌≡◌, ◌≢◌, ℕ, ◌*◌, ◌/◌, ◌<◌, List, [], length, get_or, None, sym, ap, ◌∙◌, arith, inl, inr, cases_lt, get_or-map, length-map, length-map-range_with_len, get_or-map-range_with_len, get_or_default_zero, managers_owner, u32_at, HeapAccepted, directory_of, held, times, database_in, HasShape, StoredDatabase, bytes_of, owner_of, bytes_under, owner_under, directory_bytes, listed, database_under, databases, IsHeaderSlot, Accepted, store_of, with_number, held-zero, times-some, times-contained, contained-times, spelled_shape, directory_owner, IsMovable, is_movable, HasNumber, IsListedAt}
 -- These laws are those of numbers in an accepted image.
 pub use Rattle.laws_store.proofs.Numbered.{with_number_is, with_number_none, number_listed, listed_number, number_here as has_number_is, in_store, number_slot, number_held, number_spelled}
 

@@ -1,21 +1,12 @@
 -- The entries of an accepted image, by their indexes.
-use Rattle.std.proofs.Common.{◌≡◌, ℕ, ◌<◌, Bool, true, List, length, get_or, Option, Some, None, refl, sym, ap, subst, ◌∙◌}
-use Rattle.std.proofs.lemmas.Option.{slice_get_within, get_or_from_slice_get}
-use Rattle.std.specs.Prelude.{IsSome, is_some, slice_get}
-use Rattle.heap_model.specs.Database.{Entry, a_record, a_resource, entry_data, EntryFits, has_resources}
-use Rattle.heap_model.specs.Store.{StoredDatabase, databases, IsDatabase, Accepted, store_of}
-use Rattle.heap_model.specs.StoreWords.{with_number}
-use Rattle.heap_model.specs.EntrySteps.{entries_of, entry_under, OfEntry, holds_resources, resources_under, Tells, record_told, resource_told}
-use Rattle.heap_model.specs.declared.names.Db.{Db}
+use Rattle.palm_store.proofs.Words.{◌≡◌, ℕ, ◌<◌, Bool, true, List, length, get_or, Option, Some, None, refl, sym, ap, subst, ◌∙◌, slice_get_within, get_or_from_slice_get, IsSome, slice_get, Entry, a_record, a_resource, entry_data, EntryFits, has_resources, StoredDatabase, databases, IsDatabase, Accepted, store_of, with_number, entries_of, entry_under, OfEntry, holds_resources, resources_under, Tells, record_told, resource_told, Db, same_some, none_some, found_stands, entry_owner, are_resources, IsTold, IsOfKind, IsNamed}
+use Rattle.std.specs.Prelude.{is_some}
 use Rattle.heap_model.specs.declared.entry.RecordInfo.{RecordInfo}
 use Rattle.heap_model.specs.declared.entry.ResourceInfo.{ResourceInfo}
 use Rattle.heap_model.specs.declared.entry.Entry as heard
 use Rattle.heap_model.specs.declared.entry.Entry.TheVariants as entries
-use Rattle.laws_heap.proofs.Tests.{same_some, none_some}
-use Rattle.laws_store.proofs.Found.{found_stands}
-use Rattle.laws_store.proofs.Numbered.{entry_here as entry_read, entry_owner}
+use Rattle.laws_store.proofs.Numbered.{entry_here as entry_read}
 use Rattle.palm_store.proofs.DataChunks.{for_data, data_callers}
-use Rattle.palm_store.specs.Checks.{are_resources, IsTold, IsOfKind, IsNamed}
 use Rattle.palm_store.specs.declared.opening.EntryKind.{EntryKind}
 use Rattle.palm_store.specs.declared.opening.EntryKind.TheVariants.{Records, Resources}
 use Rattle.palm_store.proofs.TwoChanges.{is_there}

@@ -1,6 +1,5 @@
 -- What two calls after each other leave of a region's value.
-use Rattle.std.proofs.Common.{◌≡◌, ℕ, sym, ap, ◌∙◌}
-use Rattle.heap_model.specs.Memory.{Memory}
+use Rattle.palm_store.proofs.Words.{◌≡◌, ℕ, sym, ap, ◌∙◌, Memory}
 pub use Rattle.database_edits.proofs.Kept.{writes_then, slides_then, none_slid}
 
 -- the first may slide bytes, and so may the second

@@ -1,15 +1,6 @@
 -- Entries searched for in the order of their indexes, and those of a database that is read.
-use Rattle.std.proofs.Common.{◌≡◌, ℕ, ◌+◌, ◌<◌, ◌≤◌, Bool, true, false, List, length, Option, Some, None, sym, ap, subst, ◌∙◌, arith, rules}
-use Rattle.std.proofs.lemmas.List.{take_all}
-use Rattle.std.proofs.lemmas.List.Sums.{count_by_more_yes, count_by_more_no}
-use Rattle.std.proofs.lemmas.Option.{slice_get_within, get_or_from_slice_get}
-use Rattle.std.specs.Prelude.{◌↔◌, IsSome, IsTrue, IfSome, IfNone, slice_get, take, count_by}
-use Rattle.std.specs.Option.{is_some}
-use Rattle.heap_model.specs.Database.{Entry, Database, has_resources}
-use Rattle.heap_model.specs.Store.{StoredDatabase, store_of}
-use Rattle.heap_model.specs.EntrySteps.{entries_of, entries_in, OfEntry, holds_resources, resources_under}
-use Rattle.heap_model.specs.declared.names.Db.{Db}
-use Rattle.palm_store.specs.Databases.{HasNumber, HasDatabase}
+use Rattle.palm_store.proofs.Words.{◌≡◌, ℕ, ◌+◌, ◌<◌, ◌≤◌, Bool, true, false, List, length, Option, Some, None, sym, ap, subst, ◌∙◌, arith, rules, take_all, count_by_more_yes, count_by_more_no, slice_get_within, get_or_from_slice_get, ◌↔◌, IsSome, IsTrue, IfSome, IfNone, slice_get, count_by, is_some, Entry, Database, has_resources, StoredDatabase, store_of, entries_of, entries_in, OfEntry, holds_resources, resources_under, Db, HasNumber, HasDatabase}
+use Rattle.std.specs.Prelude.{take}
 use Rattle.palm_store.specs.Search.{NoneBehind, SomeHas}
 
 -- ---- none that was passed is such

@@ -1,17 +1,6 @@
 -- A database stays open while a call changes fields of its entries.
-use Rattle.std.proofs.Common.{◌≡◌, ℕ, Bool, true, false, List, length, map, Option, Some, None, refl, sym, ap, ◌∙◌}
-use Rattle.std.proofs.lemmas.List.{length-map, length-set}
-use Rattle.std.specs.Prelude.{◌==◌, is_some, slice_get}
-use Rattle.std.specs.List.{find}
-use Rattle.heap_model.specs.Database.{Database, Entry}
-use Rattle.heap_model.specs.Store.{StoredDatabase, Store, Accepted, store_of}
-use Rattle.heap_model.specs.StoreWords.{SameStore, with_number}
-use Rattle.heap_model.specs.EntrySteps.{entries_of, entries_in, raised_header, replaced, replaced_if, with_attributes, with_entries, data_freed, without_data}
-use Rattle.heap_model.specs.declared.names.Db.{Db}
-use Rattle.mem_manager.specs.Lookup.{StandsAs}
-use Rattle.database_edits.specs.declared.opened.OpenDatabase.{OpenDatabase}
-use Rattle.palm_store.specs.EntryCalls.{raised_if}
-use Rattle.palm_store.specs.Opened.{IsOpened}
+use Rattle.palm_store.proofs.Words.{◌≡◌, ℕ, Bool, true, false, List, length, map, Option, Some, None, refl, sym, ap, ◌∙◌, length-map, length-set, ◌==◌, slice_get, find, Database, Entry, StoredDatabase, Store, Accepted, store_of, SameStore, with_number, entries_of, entries_in, raised_header, replaced, replaced_if, with_attributes, with_entries, data_freed, without_data, Db, StandsAs, OpenDatabase, raised_if, IsOpened}
+use Rattle.std.specs.Prelude.{is_some}
 use Rattle.palm_store.proofs.EntriesChanged.{with_list, found_changed}
 use Rattle.palm_store.proofs.OpenedEntries.{here}
 

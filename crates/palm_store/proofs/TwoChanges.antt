@@ -1,15 +1,5 @@
 -- A change of a store and another one after it, as the modification number raised.
-use Rattle.std.proofs.Common.{◌≡◌, ℕ, List, Option, Some, None, refl, sym, ap, ◌∙◌, arith}
-use Rattle.std.specs.Prelude.{IsSome}
-use Rattle.std.specs.Option.{is_some}
-use Rattle.heap_model.specs.Meaning.{LiveChunk}
-use Rattle.heap_model.specs.Reading.{held}
-use Rattle.heap_model.specs.Space.{MovesNothing, MovesOneStretchAnd}
-use Rattle.heap_model.specs.Store.{StoredDatabase, Store, Accepted, store_of}
-use Rattle.heap_model.specs.StoreWords.{SameStore, with_changed}
-use Rattle.heap_model.specs.EntrySteps.{raised, raised_header, LeavesStore, MakesNone}
-use Rattle.heap_model.specs.declared.names.Db.{Db}
-use Rattle.laws_heap.proofs.Tests.{same_some}
+use Rattle.palm_store.proofs.Words.{◌≡◌, ℕ, List, Option, Some, None, refl, sym, ap, ◌∙◌, arith, IsSome, is_some, LiveChunk, held, MovesNothing, MovesOneStretchAnd, StoredDatabase, Store, Accepted, store_of, SameStore, with_changed, raised, raised_header, LeavesStore, MakesNone, Db, same_some}
 
 -- what is there
 pub is_there : {X : Type 0} (x : Option X) → IsSome x → (one : X) × (x ≡ Some one)

@@ -1,25 +1,8 @@
 -- What several calls leave, one after the other: one that writes a database anew, and those that
 -- change what one other name stands for.
-use Rattle.std.proofs.Common.{◌≡◌, ◌≢◌, ℕ, ◌<◌, List, [], Option, Some, None, refl, sym, ap, subst, ◌∙◌, arith, inl, inr}
-use Rattle.std.proofs.lemmas.Bool.{cases_eq}
-use Rattle.std.proofs.lemmas.List.Elements.{All-nil, All-cons}
-use Rattle.std.specs.Prelude.{IsSome, All}
-use Rattle.std.specs.Option.{is_some}
-use Rattle.heap_model.specs.Heap.{HeapAccepted}
-use Rattle.heap_model.specs.Meaning.{LiveChunk, ChunkMap}
+use Rattle.palm_store.proofs.Words.{◌≡◌, ◌≢◌, ℕ, ◌<◌, List, [], Option, Some, None, refl, sym, ap, subst, ◌∙◌, arith, inl, inr, cases_eq, All-nil, All-cons, IsSome, All, is_some, HeapAccepted, LiveChunk, ChunkMap, held, Still, updated, changed, changed_at, gone, Database, spelled, database_in, Leaves, Respells, rewritten, database_here, MakesNone, none_some, same_frame, frame_then, held-zero, bytes_like, Change, one_change, edited, changed_or_kept}
 use Rattle.heap_model.specs.Placing.{SameFrame}
-use Rattle.heap_model.specs.Reading.{held}
-use Rattle.heap_model.specs.Space.{Still}
-use Rattle.heap_model.specs.Maps.{updated, changed, changed_at, gone}
-use Rattle.heap_model.specs.Database.{Database, spelled, database_in}
-use Rattle.heap_model.specs.Leaving.{Leaves, Respells, rewritten, database_here}
-use Rattle.heap_model.specs.EntrySteps.{MakesNone}
-use Rattle.laws_heap.proofs.Tests.{none_some}
-use Rattle.laws_heap.proofs.SameLayouts.{same_frame, frame_then}
-use Rattle.laws_heap.proofs.Meanings.{held-zero}
-use Rattle.laws_store.proofs.KeptDatabases.{bytes_like}
-use Rattle.laws_store.specs.Changes.{Change}
-use Rattle.laws_store.proofs.Edited.{one_change, edited, changed_or_kept, here as updated_here, apart as updated_apart}
+use Rattle.laws_store.proofs.Edited.{here as updated_here, apart as updated_apart}
 
 -- ---- what names stand for
 

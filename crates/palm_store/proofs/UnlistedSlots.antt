@@ -1,23 +1,7 @@
 -- A slot taken out of the directory: the bytes of those after it slide to the front, and the chunk
 -- shrinks.
-use Rattle.std.proofs.Common.{◌≡◌, ◌≢◌, ℕ, ◌+◌, ◌-◌, ◌*◌, ◌<◌, ◌≤◌, List, ◌++◌, length, take, drop, Some, Result, Ok, Err, refl, sym, ap, ◌∙◌, arith, length-append, length-take, length-drop}
-use Rattle.std.specs.Prelude.{slice_range, IfErr, IsOk}
-use Rattle.heap_model.specs.Bytes.{overwritten, sized_to}
-use Rattle.heap_model.specs.Chunk.{need}
-use Rattle.heap_model.specs.Heap.{HeapAccepted, directory_of}
-use Rattle.heap_model.specs.Memory.{Memory}
-use Rattle.heap_model.specs.Lending.{IsLent}
-use Rattle.heap_model.specs.Meaning.{LiveChunk}
-use Rattle.heap_model.specs.Reading.{held}
-use Rattle.heap_model.specs.Maps.{put, sized}
-use Rattle.heap_model.specs.Leaving.{Leaves}
-use Rattle.heap_model.specs.Store.{bytes_under, directory_bytes}
-use Rattle.heap_model.specs.Refusals.{FirstBrings}
-use Rattle.heap_model.specs.MemorySteps.{growth_checks}
-use Rattle.heap_model.specs.declared.refusal.Refusal.{Refusal}
-use Rattle.laws_store.proofs.NewDatabases.{managers_loose}
-use Rattle.laws_store.proofs.DroppedDatabases.{closed_up}
-use Rattle.palm_store.specs.Directory.{Unlists}
+use Rattle.palm_store.proofs.Words.{◌≡◌, ◌≢◌, ℕ, ◌+◌, ◌-◌, ◌*◌, ◌<◌, ◌≤◌, List, ◌++◌, length, take, drop, Some, Result, refl, sym, ap, ◌∙◌, arith, length-append, length-take, length-drop, slice_range, IfErr, IsOk, overwritten, sized_to, need, HeapAccepted, directory_of, Memory, IsLent, LiveChunk, held, put, sized, Leaves, bytes_under, directory_bytes, FirstBrings, growth_checks, Refusal, managers_loose, closed_up, Unlists}
+use Rattle.std.proofs.Common.{Ok, Err}
 use Rattle.palm_store.proofs.Maps.{bytes_held, still_through, kept_apart}
 use Rattle.palm_store.proofs.ListedSlots.{put_here, put_apart, sized_here, sized_apart, lock_of, the_directory, growth_short}
 

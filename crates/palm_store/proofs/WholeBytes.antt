@@ -1,33 +1,8 @@
 -- A header and its entries, written one after the other into a chunk of the manager's that has room
 -- for them.
-use Rattle.std.proofs.Common.{◌≡◌, ◌≢◌, ℕ, zero, suc, ◌+◌, ◌*◌, ◌<◌, ◌≤◌, Bool, true, false, List, [], ◌∷◌, ◌++◌, length, get_or, take, drop, Some, refl, sym, ap, subst, ◌∙◌, append_assoc, arith, length-append, length-take, length-drop, inl, inr}
-use Rattle.std.proofs.Math.Seq.{take-append_seam}
-use Rattle.std.proofs.lemmas.Bool.{cases_eq}
-use Rattle.std.proofs.lemmas.Grind.{flat_map-append}
-use Rattle.std.proofs.lemmas.List.{append-nil, get_or-drop, take-append-drop, take_more, take_all, drop_all, drop_at, drop-drop}
-use Rattle.std.proofs.lemmas.List.Elements.{All-nil, All-cons, All-append}
-use Rattle.std.specs.Prelude.{◌^◌, if◌then◌else◌, IsSome, All}
-use Rattle.std.specs.Option.{is_some}
-use Rattle.std.specs.List.{flat_map}
-use Rattle.heap_model.specs.Bytes.{overwritten}
-use Rattle.heap_model.specs.Heap.{HeapAccepted}
-use Rattle.heap_model.specs.Meaning.{LiveChunk}
-use Rattle.heap_model.specs.Reading.{held}
-use Rattle.heap_model.specs.Maps.{changed, put}
-use Rattle.heap_model.specs.Leaving.{Leaves, rewritten}
-use Rattle.heap_model.specs.DatabaseFields.{entry_size}
-use Rattle.heap_model.specs.Database.{Entry, Database, DatabaseHeader, IsDatabaseName, has_resources, header_bytes, entry_bytes, spelled, EntryFits, DatabaseFits, entry_offset}
-use Rattle.heap_model.specs.Store.{bytes_under, owner_under}
-use Rattle.heap_model.specs.declared.database.DbInfo.{DbInfo}
-use Rattle.heap_model.specs.declared.names.Name.{Name}
-use Rattle.db_format.specs.declared.header.DbHeader.{DbHeader}
-use Rattle.db_format.specs.Headers.{header_values, IsHeaderOf, WritesHeader}
-use Rattle.laws_heap.proofs.SameLayouts.{same_frame, frame_then}
-use Rattle.laws_store.proofs.Spellings.{length-entry_bytes, length-entries}
-use Rattle.laws_store.proofs.Shapes.{offset_below}
-use Rattle.laws_store.proofs.NewDatabases.{managers_loose}
+use Rattle.palm_store.proofs.Words.{◌≡◌, ◌≢◌, ℕ, zero, suc, ◌+◌, ◌*◌, ◌<◌, ◌≤◌, Bool, true, false, List, [], ◌∷◌, ◌++◌, length, get_or, take, drop, Some, refl, sym, ap, subst, ◌∙◌, append_assoc, arith, length-append, length-take, length-drop, inl, inr, take-append_seam, cases_eq, flat_map-append, append-nil, get_or-drop, take-append-drop, take_more, take_all, drop_all, drop_at, drop-drop, All-nil, All-cons, All-append, if◌then◌else◌, IsSome, All, is_some, flat_map, overwritten, HeapAccepted, LiveChunk, held, changed, put, Leaves, rewritten, entry_size, Entry, Database, DatabaseHeader, IsDatabaseName, has_resources, header_bytes, entry_bytes, spelled, EntryFits, DatabaseFits, entry_offset, bytes_under, owner_under, DbInfo, Name, DbHeader, header_values, IsHeaderOf, WritesHeader, same_frame, frame_then, length-entry_bytes, length-entries, offset_below, managers_loose, WholeEntry, header_asked, entry_named, entries_named, whole_database, numbers_in}
+use Rattle.std.specs.Prelude.{◌^◌}
 use Rattle.laws_store.proofs.Edited.{here as updated_here, apart as updated_apart}
-use Rattle.palm_store.specs.WholeDatabases.{WholeEntry, header_asked, entry_named, entries_named, whole_database, numbers_in}
 use Rattle.palm_store.proofs.Maps.{owner_held, bytes_held, owned, kept_apart, still_through}
 use Rattle.palm_store.proofs.ListedSlots.{put_here, put_apart, lock_of}
 

@@ -1,28 +1,6 @@
 -- The chunks of a whole database, made and listed; and why there was no room for them.
-use Rattle.std.proofs.Common.{◌≡◌, ◌≢◌, ℕ, ◌+◌, ◌<◌, Bool, true, false, List, [], ◌∷◌, ◌++◌, length, replicate, Option, Some, None, refl, sym, ap, subst, ◌∙◌, arith, inl, inr}
-use Rattle.std.proofs.lemmas.Bool.{cases_eq}
-use Rattle.std.specs.Prelude.{◌==◌, if◌then◌else◌}
-use Rattle.std.specs.Option.{is_some}
-use Rattle.heap_model.specs.Bytes.{u32_bytes}
-use Rattle.heap_model.specs.Chunk.{need}
-use Rattle.heap_model.specs.Heap.{HeapAccepted, directory_of}
-use Rattle.heap_model.specs.Meaning.{LiveChunk}
-use Rattle.heap_model.specs.Reading.{held}
-use Rattle.heap_model.specs.Space.{rooms}
-use Rattle.heap_model.specs.Lists.{times}
-use Rattle.heap_model.specs.Maps.{changed}
-use Rattle.heap_model.specs.Rooms.{Part, making, growth_part, grows, stretch_of, Lowers, KeepsStretches}
-use Rattle.heap_model.specs.Store.{bytes_under, owner_under, directory_bytes}
-use Rattle.heap_model.specs.Leaving.{Leaves, rewritten}
-use Rattle.laws_store.proofs.Owners.{directory_owner}
-use Rattle.laws_store.proofs.NewDatabases.{managers_loose, slots_made}
-use Rattle.laws_store.proofs.KeptDatabases.{directory_like}
-use Rattle.laws_store.proofs.Parts.{one_grown}
+use Rattle.palm_store.proofs.Words.{◌≡◌, ◌≢◌, ℕ, ◌+◌, ◌<◌, Bool, true, false, List, [], ◌∷◌, ◌++◌, length, replicate, Option, Some, None, refl, sym, ap, subst, ◌∙◌, arith, inl, inr, cases_eq, ◌==◌, if◌then◌else◌, is_some, u32_bytes, need, HeapAccepted, directory_of, LiveChunk, held, rooms, times, changed, Part, making, growth_part, grows, stretch_of, Lowers, KeepsStretches, bytes_under, owner_under, directory_bytes, Leaves, rewritten, directory_owner, managers_loose, slots_made, directory_like, one_grown, MakesNew, HasNoRoomToList, makings, listing_part, listing_slots, whole_parts, whole_slots, IsGained, RunsOut, MakesAll, MakesAndLists, ListsWhole}
 use Rattle.laws_store.proofs.Edited.{here as updated_here, apart as updated_apart}
-use Rattle.mem_manager.specs.Lookup.{MakesNew}
-use Rattle.palm_store.specs.Directory.{HasNoRoomToList}
-use Rattle.heap_model.specs.FileSteps.{makings, listing_part, listing_slots, whole_parts, whole_slots}
-use Rattle.palm_store.specs.WholeDatabases.{IsGained, RunsOut, MakesAll, MakesAndLists, ListsWhole}
 use Rattle.palm_store.proofs.Maps.{owner_none, owned, still_through}
 use Rattle.palm_store.proofs.ListedSlots.{chunk_of, made_here, made_apart, made_kept, lock_of, is_zero, is_some_number}
 use Rattle.palm_store.proofs.WholeRooms.{runs_then}

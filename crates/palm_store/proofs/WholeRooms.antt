@@ -1,9 +1,5 @@
 -- Room for parts that are made one after the other.
-use Rattle.std.proofs.Common.{◌≡◌, ℕ, ◌+◌, ◌≤◌, List, [], ◌∷◌, ◌++◌, length, Option, Some, None, refl, ap, subst, arith, inl, inr}
-use Rattle.heap_model.specs.Space.{free_slots, rooms}
-use Rattle.heap_model.specs.Rooms.{Part, making, Stuck}
-use Rattle.heap_model.specs.FileSteps.{makings}
-use Rattle.palm_store.specs.WholeDatabases.{RunsOut, Spends}
+use Rattle.palm_store.proofs.Words.{◌≡◌, ℕ, ◌+◌, ◌≤◌, List, [], ◌∷◌, ◌++◌, length, Option, Some, None, refl, ap, subst, arith, inl, inr, free_slots, rooms, Part, making, Stuck, makings, RunsOut, Spends}
 
 -- parts that found room, and others that run out of it
 pub spends_then : (left : List ℕ) (done : List Part) (mid : List ℕ) (parts : List Part) → Spends left done mid → Stuck mid parts → Stuck left (done ++ parts)

@@ -1,33 +1,8 @@
 -- A whole database that was made is a step of the store: it comes after the others, and its data to
 -- the map.
-use Rattle.std.proofs.Common.{◌≡◌, ◌≢◌, ℕ, ◌+◌, ◌<◌, Bool, List, [], ◌∷◌, ◌++◌, length, map, drop, Option, Some, None, refl, sym, ap, subst, ◌∙◌, arith, length-append, inl, inr}
-use Rattle.std.proofs.lemmas.Bool.{cases_eq}
-use Rattle.std.proofs.lemmas.List.Elements.{All-nil, All-cons, All-head, All-tail}
-use Rattle.std.specs.Prelude.{◌⊎◌, All}
-use Rattle.std.specs.List.{AllZip, filter_map}
-use Rattle.heap_model.specs.Bytes.{u32_bytes}
-use Rattle.heap_model.specs.Heap.{HeapAccepted, directory_of}
-use Rattle.heap_model.specs.Meaning.{LiveChunk, ChunkMap}
-use Rattle.heap_model.specs.Reading.{held}
-use Rattle.heap_model.specs.Lists.{same, times, u32s_in, Distinct}
-use Rattle.heap_model.specs.Maps.{not_owned, callers_map}
-use Rattle.heap_model.specs.Database.{Database, data_in, entry_data, spelled, has_resources, DatabaseFits, entry_offset}
-use Rattle.heap_model.specs.Store.{StoredDatabase, owner_of, owner_under, directory_bytes, listed, databases, most_databases, unique_id, HasUniqueIds, Accepted, store_of}
-use Rattle.heap_model.specs.Counts.{NamesData}
-use Rattle.heap_model.specs.DatabaseSteps.{IsTaken}
-use Rattle.heap_model.specs.declared.database.DbInfo.{DbInfo}
-use Rattle.laws_heap.proofs.Frames.{length-u32_bytes}
-use Rattle.laws_store.specs.Changes.{Appends}
-use Rattle.laws_store.proofs.Times.{same-yes, same-no}
-use Rattle.laws_store.proofs.Owners.{directory_owner}
-use Rattle.laws_store.proofs.Counts.{has_databases, listed_numbers, length-numbers}
-use Rattle.laws_store.proofs.NewDatabases.{u32s_push}
-use Rattle.laws_store.proofs.Edited.{hidden}
+use Rattle.palm_store.proofs.Words.{◌≡◌, ◌≢◌, ℕ, ◌+◌, ◌<◌, Bool, List, [], ◌∷◌, ◌++◌, length, map, drop, Option, Some, None, refl, sym, ap, subst, ◌∙◌, arith, length-append, inl, inr, cases_eq, All-nil, All-cons, All-head, All-tail, ◌⊎◌, All, AllZip, filter_map, u32_bytes, HeapAccepted, directory_of, LiveChunk, ChunkMap, held, same, times, u32s_in, Distinct, not_owned, callers_map, Database, data_in, entry_data, spelled, has_resources, DatabaseFits, entry_offset, StoredDatabase, owner_of, owner_under, directory_bytes, listed, databases, most_databases, unique_id, HasUniqueIds, Accepted, store_of, NamesData, IsTaken, DbInfo, length-u32_bytes, Appends, same-yes, same-no, directory_owner, has_databases, listed_numbers, length-numbers, u32s_push, hidden, has_store, BlockSizes, WholeEntry, size_of_data, data_sizes, CanCome, id_asked, CanBeWhole, entries_named, whole_database, whole_size, IsGained, GainsZeros, MakesWhole, ListsWhole}
 use Rattle.laws_store.proofs.Listed as listed
-use Rattle.laws_store.proofs.ChangeSteps.{has_store}
 use Rattle.palm_store.specs.declared.entries.infos.EntryInfo.TheVariants as infos
-use Rattle.palm_store.specs.declared.databases.whole.BlockSizes.{BlockSizes}
-use Rattle.palm_store.specs.WholeDatabases.{WholeEntry, size_of_data, data_sizes, CanCome, id_asked, CanBeWhole, entries_named, whole_database, whole_size, IsGained, GainsZeros, MakesWhole, ListsWhole}
 use Rattle.palm_store.proofs.Maps.{owner_held, owner_none, owner_alike, bytes_held, held_some}
 use Rattle.palm_store.proofs.ListedSlots.{chunk_of}
 use Rattle.palm_store.proofs.Creation.{slot_fits, own_names, counted, data_alike}

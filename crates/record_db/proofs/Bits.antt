@@ -1,11 +1,7 @@
 -- Bits of attributes, tested by masks and set.
-use Rattle.std.proofs.Common.{◌≡◌, ℕ, zero, suc, ◌*◌, ◌<◌, Bool, true, false, refl, ap, ◌∙◌, arith, bit_and, bit_or, inl, inr}
-use Rattle.std.proofs.lemmas.Bool.{cases_eq, ne_eqb}
+use Rattle.record_db.proofs.Words.{◌≡◌, ℕ, zero, suc, ◌*◌, ◌<◌, Bool, true, false, refl, ap, ◌∙◌, arith, bit_and, bit_or, inl, inr, cases_eq, ne_eqb, ◌==◌, min, max, is_deleted, is_busy, released, attributes_set}
 use Rattle.std.proofs.lemmas.Nat.Bits.{and_pow, bit_at-lt, bit_at_and, bit_at_or}
-use Rattle.std.specs.Prelude.{◌==◌, min, max}
 use Rattle.std.specs.Int.{bit_at}
-use Rattle.heap_model.specs.Database.{is_deleted}
-use Rattle.heap_model.specs.RecordSteps.{is_busy, released, attributes_set}
 
 -- ---- tested
 

@@ -1,28 +1,8 @@
 -- Calls on a category take the records in order: the store after the first `count` of them.
-use Rattle.std.proofs.Common.{◌≡◌, ℕ, zero, suc, ◌+◌, ◌-◌, ◌<◌, ◌≤◌, ◌++◌, Bool, true, false, List, [], ◌∷◌, length, map, take, get_or, Option, Some, None, refl, sym, ap, subst, ◌∙◌, arith, inl, inr}
-use Rattle.std.proofs.lemmas.Bool.{cases_eq, eq-eqb, ne_eqb}
-use Rattle.std.proofs.lemmas.List.{map-append, append_assoc, take_all}
+use Rattle.record_db.proofs.Words.{◌≡◌, ℕ, zero, suc, ◌+◌, ◌-◌, ◌<◌, ◌≤◌, ◌++◌, Bool, true, false, List, [], ◌∷◌, length, map, take, get_or, Option, Some, None, refl, sym, ap, subst, ◌∙◌, arith, inl, inr, cases_eq, eq-eqb, ne_eqb, map-append, append_assoc, take_all, ◌==◌, if◌then◌else◌, slice_get, filter, IsSome, find, LiveChunk, ChunkMap, times, Of, IsLocked, Entry, a_record, entry_data, StoredDatabase, Store, Accepted, store_of, SameStore, all_gone, with_changed, with_number, entries_of, entries_in, holds_resources, resources_under, entry_under, OfEntry, data_of_entry, data_under, replaced, with_entries, with_chunks, data_freed, LeavesStore, MakesNone, HasLockedOf, category_deleted, is_of, IsOf, data_of_category, deleted_category, Db, cond-true, cond-false, HasLockedData, IsFirst, NoneBehind, Here, with_list, changed_alike, changed_behind, changed_nothing, found_changed, left_after, left_as, itself}
 use Rattle.std.proofs.lemmas.List.Elements.{filter-append}
 use Rattle.std.proofs.lemmas.List.Sums.{sum_by-append}
 use Rattle.std.proofs.lemmas.Option.{slice_get-get_or, slice_get_within}
-use Rattle.std.specs.Prelude.{◌==◌, if◌then◌else◌, slice_get, filter, IsSome}
-use Rattle.std.specs.List.{find}
-use Rattle.heap_model.specs.Meaning.{LiveChunk, ChunkMap}
-use Rattle.heap_model.specs.Lists.{times}
-use Rattle.heap_model.specs.MemorySteps.{Of, IsLocked}
-use Rattle.heap_model.specs.Database.{Entry, a_record, entry_data}
-use Rattle.heap_model.specs.Store.{StoredDatabase, Store, Accepted, store_of}
-use Rattle.heap_model.specs.StoreWords.{SameStore, all_gone, with_changed, with_number}
-use Rattle.heap_model.specs.EntrySteps.{entries_of, entries_in, holds_resources, resources_under, entry_under, OfEntry, data_of_entry, data_under, replaced, with_entries, with_chunks, data_freed, LeavesStore, MakesNone}
-use Rattle.heap_model.specs.RecordSteps.{HasLockedOf, category_deleted}
-use Rattle.heap_model.specs.Categories.{is_of, IsOf, data_of_category, deleted_category}
-use Rattle.heap_model.specs.declared.names.Db.{Db}
-use Rattle.laws_heap.proofs.Tests.{cond-true, cond-false}
-use Rattle.palm_store.specs.EntryCalls.{HasLockedData}
-use Rattle.palm_store.specs.Search.{IsFirst, NoneBehind}
-use Rattle.palm_store.proofs.OpenedEntries.{Here}
-use Rattle.palm_store.proofs.EntriesChanged.{with_list, changed_alike, changed_behind, changed_nothing, found_changed}
-use Rattle.palm_store.proofs.TwoChanges.{left_after, left_as, itself}
 use Rattle.record_db.proofs.OneRecord.{listed_if, one_deleted, none_deleted, deleted_one, isnt_of}
 use Rattle.record_db.proofs.Turns.{first_changed, none_changed, all_changed, later_kept, next_changed}
 

@@ -1,25 +1,11 @@
 -- The records of an accepted image, by their indexes.
-use Rattle.std.proofs.Common.{◌≡◌, ℕ, ◌<◌, Bool, List, Option, Some, None, refl, sym, ap, subst, ◌∙◌, arith, inl, inr, true, false}
-use Rattle.std.proofs.lemmas.Bool.{cases_eq}
-use Rattle.std.specs.Prelude.{◌↔◌, ◌==◌, ◌&&◌, ◌||◌, not, IsSome, IsSomeAnd, IfSome, slice_get}
-use Rattle.heap_model.specs.Meaning.{LiveChunk}
-use Rattle.heap_model.specs.Maps.{not_owned, callers_map}
-use Rattle.heap_model.specs.MemorySteps.{Of, IsLocked}
-use Rattle.heap_model.specs.Categories.{all_categories, category_of, has_category}
-use Rattle.heap_model.specs.Database.{Database, Entry, a_record, a_resource, is_deleted}
-use Rattle.heap_model.specs.Store.{HasData, Accepted, store_of}
-use Rattle.heap_model.specs.StoreWords.{with_number}
-use Rattle.heap_model.specs.EntrySteps.{entry_under, OfEntry, data_of_entry, data_under, IsNameOf, IsInfoOf}
-use Rattle.heap_model.specs.declared.names.Db.{Db}
+use Rattle.record_db.proofs.Words.{◌≡◌, ℕ, ◌<◌, Bool, List, Option, Some, None, refl, sym, ap, subst, ◌∙◌, arith, inl, inr, true, false, cases_eq, ◌↔◌, ◌==◌, ◌&&◌, ◌||◌, not, IsSome, IsSomeAnd, IfSome, slice_get, LiveChunk, not_owned, callers_map, Of, IsLocked, all_categories, category_of, has_category, Database, Entry, a_record, a_resource, is_deleted, HasData, Accepted, store_of, with_number, entry_under, OfEntry, data_of_entry, data_under, IsNameOf, IsInfoOf, Db, IsNamed, here, entry_is, of_all, number_read, entries_read}
 use Rattle.heap_model.specs.declared.names.Name.{Name}
 use Rattle.heap_model.specs.declared.entry.RecordInfo.{RecordInfo}
 use Rattle.laws_heap.proofs.Meanings.{held-zero}
 use Rattle.laws_store.proofs.Owners.{owned_some}
 use Rattle.palm_store.specs.Databases.{HasDatabase}
-use Rattle.palm_store.specs.Checks.{IsNamed}
-use Rattle.palm_store.proofs.OpenedEntries.{here, entry_is, of_all}
 use Rattle.palm_store.proofs.OpenedEntries as entries
-use Rattle.palm_store.proofs.SearchLaws.{number_read, entries_read}
 
 -- ---- the entry
 

@@ -1,3 +1,4 @@
+pub mod Words
 mod Bits
 mod Entries
 mod LockedData
@@ -6,3 +7,4 @@ mod Turns
 mod CategoryTurns
 mod OneRecord
 mod Moved
+pub mod Laws

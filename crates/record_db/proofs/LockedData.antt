@@ -1,11 +1,5 @@
 -- Records that are passed in the order of their indexes.
-use Rattle.std.proofs.Common.{ℕ, ◌<◌, List}
-use Rattle.std.specs.Prelude.{slice_get}
-use Rattle.heap_model.specs.Database.{Entry}
-use Rattle.heap_model.specs.EntrySteps.{OfEntry, data_of_entry}
-use Rattle.heap_model.specs.Meaning.{ChunkMap}
-use Rattle.heap_model.specs.MemorySteps.{Of, IsLocked}
-use Rattle.heap_model.specs.Categories.{IsOf}
+use Rattle.record_db.proofs.Words.{ℕ, ◌<◌, List, slice_get, Entry, OfEntry, data_of_entry, ChunkMap, Of, IsLocked, IsOf}
 
 -- none of the first `count` records is of the category and has locked data
 abbrev pub NoneLocked : ChunkMap → List (Entry ℕ) → ℕ → ℕ → Type 0

@@ -1,19 +1,8 @@
 -- All records of a category moved to another are records with other attributes.
-use Rattle.std.proofs.Common.{◌≡◌, ℕ, ◌<◌, ◌≤◌, ◌^◌, Bool, true, false, List, [], ◌∷◌, map, refl, ap, ◌∙◌, arith, inl, inr}
-use Rattle.std.proofs.lemmas.Bool.{cases_lt}
+use Rattle.record_db.proofs.Words.{◌≡◌, ℕ, ◌<◌, ◌≤◌, ◌^◌, Bool, true, false, List, [], ◌∷◌, map, refl, ap, ◌∙◌, arith, inl, inr, cases_lt, ◌==◌, ◌&&◌, ◌||◌, ◌%◌, not, if◌then◌else◌, Entry, a_record, a_resource, is_deleted, Accepted, store_of, with_attributes, with_entries, LeavesStore, has_category, with_category, recategorized, moved_category, Db, cond-false, Here, with_list, changed_alike, left_as}
 use Rattle.std.proofs.lemmas.Nat.{or_lt}
-use Rattle.std.specs.Prelude.{◌==◌, ◌&&◌, ◌||◌, ◌%◌, not, if◌then◌else◌}
-use Rattle.heap_model.specs.Database.{Entry, a_record, a_resource, is_deleted}
-use Rattle.heap_model.specs.Store.{Accepted, store_of}
-use Rattle.heap_model.specs.EntrySteps.{with_attributes, with_entries, LeavesStore}
-use Rattle.heap_model.specs.Categories.{has_category, with_category, recategorized, moved_category}
-use Rattle.heap_model.specs.declared.names.Db.{Db}
-use Rattle.laws_heap.proofs.Tests.{cond-false}
 use Rattle.palm_store.specs.AttributeChanges.{MayChange}
 use Rattle.record_db.specs.Categories.{moved_attributes}
-use Rattle.palm_store.proofs.OpenedEntries.{Here}
-use Rattle.palm_store.proofs.EntriesChanged.{with_list, changed_alike}
-use Rattle.palm_store.proofs.TwoChanges.{left_as}
 
 -- ---- the attributes
 

@@ -1,20 +1,5 @@
 -- One record after a call on a category.
-use Rattle.std.proofs.Common.{◌≡◌, ℕ, Bool, true, false, List, [], ◌∷◌, map, Option, Some, None, refl, sym, ap, ◌∙◌, arith, inl, inr}
-use Rattle.std.proofs.lemmas.Bool.{cases_eq, eq-eqb, ne_eqb}
-use Rattle.std.specs.Prelude.{◌==◌, IsSome}
-use Rattle.heap_model.specs.Meaning.{ChunkMap}
-use Rattle.heap_model.specs.Maps.{gone}
-use Rattle.heap_model.specs.Lists.{times}
-use Rattle.heap_model.specs.Database.{Entry, entry_data}
-use Rattle.heap_model.specs.Store.{Store, Accepted, store_of}
-use Rattle.heap_model.specs.StoreWords.{all_gone, with_number}
-use Rattle.heap_model.specs.EntrySteps.{entry_under, entry_changed, data_of_entry, data_under, without_data, with_chunks, data_freed, LeavesStore}
-use Rattle.heap_model.specs.Categories.{is_of, data_of_category, deleted_category}
-use Rattle.heap_model.specs.declared.names.Db.{Db}
-use Rattle.laws_heap.proofs.Tests.{cond-true, cond-false}
-use Rattle.laws_store.proofs.Times.{same-yes, same-no, times-cons}
-use Rattle.palm_store.proofs.EntriesChanged.{entry_alike, entry_kept}
-use Rattle.palm_store.proofs.TwoChanges.{left_as, itself}
+use Rattle.record_db.proofs.Words.{◌≡◌, ℕ, Bool, true, false, List, [], ◌∷◌, map, Option, Some, None, refl, sym, ap, ◌∙◌, arith, inl, inr, cases_eq, eq-eqb, ne_eqb, ◌==◌, IsSome, ChunkMap, gone, times, Entry, entry_data, Store, Accepted, store_of, all_gone, with_number, entry_under, entry_changed, data_of_entry, data_under, without_data, with_chunks, data_freed, LeavesStore, is_of, data_of_category, deleted_category, Db, cond-true, cond-false, same-yes, same-no, times-cons, entry_alike, entry_kept, left_as, itself}
 
 -- a record that isn't of the category
 pub isnt_of : (category : ℕ) (entry : Entry ℕ) → (is_of category entry ≡ true → ⊥) → is_of category entry ≡ false

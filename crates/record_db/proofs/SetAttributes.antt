@@ -1,24 +1,7 @@
 -- Records whose attributes are set: their IDs stay.
-use Rattle.std.proofs.Common.{◌≡◌, ◌≢◌, ℕ, zero, suc, ◌+◌, ◌^◌, ◌<◌, ◌≤◌, Bool, true, false, List, [], ◌∷◌, Option, Some, refl, sym, ap, subst, ◌∙◌, arith, inl, inr}
+use Rattle.record_db.proofs.Words.{◌≡◌, ◌≢◌, ℕ, zero, suc, ◌+◌, ◌^◌, ◌<◌, ◌≤◌, Bool, true, false, List, [], ◌∷◌, Option, Some, refl, sym, ap, subst, ◌∙◌, arith, inl, inr, cases_eq, eq-eqb, ne_eqb, ◌⊎◌, ◌==◌, IsSome, slice_get, filter_map, times, Entry, a_record, a_resource, entry_with, is_deleted, StoredDatabase, unique_id, unique_ids, Accepted, store_of, with_number, entries_of, entries_in, entry_under, OfEntry, HasId, HasOther, data_of_entry, data_under, resources_under, with_attributes, entry_changed, data_exchanged, entry_swapped, raised, LeavesStore, id_in, id_set, Db, cond-true, cond-false, same_some, none_some, same-yes, times-cons, all-times, distinct-times, with_info, CanHave, raised_if, SomeHas, here, entry_is, fits, entry_alike, set_as}
 use Rattle.std.proofs.Math.Nat.{mod-lt}
-use Rattle.std.proofs.lemmas.Bool.{cases_eq, eq-eqb, ne_eqb}
-use Rattle.std.specs.Prelude.{◌⊎◌, ◌==◌, IsSome, slice_get}
-use Rattle.std.specs.List.{filter_map}
-use Rattle.heap_model.specs.Lists.{times}
-use Rattle.heap_model.specs.Database.{Entry, a_record, a_resource, entry_with, is_deleted}
-use Rattle.heap_model.specs.Store.{StoredDatabase, unique_id, unique_ids, Accepted, store_of}
-use Rattle.heap_model.specs.StoreWords.{with_number}
-use Rattle.heap_model.specs.EntrySteps.{entries_of, entries_in, entry_under, OfEntry, HasId, HasOther, data_of_entry, data_under, resources_under, with_attributes, entry_changed, data_exchanged, entry_swapped, raised, LeavesStore}
-use Rattle.heap_model.specs.RecordSteps.{id_in, id_set}
-use Rattle.heap_model.specs.declared.names.Db.{Db}
-use Rattle.laws_heap.proofs.Tests.{cond-true, cond-false, same_some, none_some}
-use Rattle.laws_store.proofs.Times.{same-yes, times-cons, all-times, distinct-times}
-use Rattle.palm_store.specs.EntryInfos.{with_info, CanHave}
-use Rattle.palm_store.specs.EntryCalls.{raised_if}
-use Rattle.palm_store.specs.Search.{SomeHas}
 use Rattle.palm_store.specs.declared.entries.infos.EntryInfo.TheVariants as infos
-use Rattle.palm_store.proofs.OpenedEntries.{here, entry_is, fits}
-use Rattle.palm_store.proofs.EntriesChanged.{entry_alike, set_as}
 use Rattle.record_db.proofs.Entries.{no_data}
 
 -- ---- IDs

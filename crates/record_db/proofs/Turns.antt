@@ -1,10 +1,6 @@
 -- Changes of the entries of a database one after the other, in the order of their indexes: the
 -- entries after the first `count` changes, and after all.
-use Rattle.std.proofs.Common.{◌≡◌, ℕ, zero, suc, ◌<◌, ◌≤◌, ◌++◌, List, [], ◌∷◌, length, map, take, drop, Option, Some, None, refl, ap, ◌∙◌, arith}
-use Rattle.std.proofs.lemmas.List.{take_all, drop_all, append-nil}
-use Rattle.std.specs.Prelude.{slice_get}
-use Rattle.heap_model.specs.Database.{Entry}
-use Rattle.heap_model.specs.EntrySteps.{replaced_if, replaced}
+use Rattle.record_db.proofs.Words.{◌≡◌, ℕ, zero, suc, ◌<◌, ◌≤◌, ◌++◌, List, [], ◌∷◌, length, map, take, drop, Option, Some, None, refl, ap, ◌∙◌, arith, take_all, drop_all, append-nil, slice_get, Entry, replaced_if, replaced}
 
 -- the first of some entries changed
 abbrev pub first_changed : (Entry ℕ → Entry ℕ) → ℕ → List (Entry ℕ) → List (Entry ℕ)

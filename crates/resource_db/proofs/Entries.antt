@@ -1,14 +1,8 @@
 -- The resources of an accepted image, by their indexes.
-use Rattle.std.proofs.Common.{◌≡◌, ℕ, ◌<◌, List, Option, Some, None, sym, ap, ◌∙◌, arith}
-use Rattle.std.specs.Prelude.{IsSome}
-use Rattle.heap_model.specs.Database.{Entry, a_record, a_resource}
-use Rattle.heap_model.specs.Store.{HasData, Accepted, store_of}
+use Rattle.resource_db.proofs.Words.{◌≡◌, ℕ, ◌<◌, List, Option, Some, None, sym, ap, ◌∙◌, arith, IsSome, Entry, a_record, a_resource, HasData, Accepted, store_of, entry_under, OfEntry, IsResourceInfoOf, Db, here, entry_is, of_all}
 use Rattle.heap_model.specs.StoreWords.{with_number}
-use Rattle.heap_model.specs.EntrySteps.{entry_under, OfEntry, IsResourceInfoOf}
-use Rattle.heap_model.specs.declared.names.Db.{Db}
 use Rattle.heap_model.specs.declared.entry.ResourceInfo.{ResourceInfo}
 use Rattle.laws_store.proofs.Owners.{owned_some}
-use Rattle.palm_store.proofs.OpenedEntries.{here, entry_is, of_all}
 
 -- what is told of a resource says what its entry is
 pub info_is : (x : Option (Entry ℕ)) (info : ResourceInfo) → OfEntry x (IsResourceInfoOf info) → x ≡ Some (a_resource info.kind info.id info.«data».0)

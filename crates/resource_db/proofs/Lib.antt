@@ -1,2 +1,3 @@
+pub mod Words
 mod Entries
 mod Types

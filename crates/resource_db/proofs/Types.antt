@@ -1,27 +1,11 @@
 -- Resources of a type, counted in the order of their indexes.
-use Rattle.std.proofs.Common.{◌≡◌, ℕ, ◌+◌, ◌<◌, ◌≤◌, Bool, true, List, [], cond, Option, Some, None, refl, sym, subst, arith, inl, inr}
+use Rattle.resource_db.proofs.Words.{◌≡◌, ℕ, ◌+◌, ◌<◌, ◌≤◌, Bool, true, List, [], cond, Option, Some, None, refl, sym, subst, arith, inl, inr, IfSome, IfNone, slice_get, take, count_by, Memory, Database, Entry, Accepted, store_of, NoneHolds, entries_in, OfEntry, has_type, DoesInStore, Db, FindType, Number, ResourceNotFound, same_store, asks, refused, number_or_refused, opening_checks, entries_read, counted_more}
 use Rattle.std.proofs.lemmas.List.Sums.{sum_by-take-le}
-use Rattle.std.specs.Prelude.{IfSome, IfNone, slice_get, take, count_by}
 use Rattle.std.specs.Option.{ok_or}
-use Rattle.heap_model.specs.Memory.{Memory}
-use Rattle.heap_model.specs.Database.{Database, Entry}
-use Rattle.heap_model.specs.Store.{Accepted, store_of}
-use Rattle.heap_model.specs.Refusals.{NoneHolds}
-use Rattle.heap_model.specs.EntrySteps.{entries_in, OfEntry}
-use Rattle.heap_model.specs.ResourceSteps.{has_type}
-use Rattle.heap_model.specs.StoreSteps.{DoesInStore}
-use Rattle.heap_model.specs.declared.names.Db.{Db}
 use Rattle.heap_model.specs.declared.call.Call.TheVariants as calls
-use Rattle.heap_model.specs.declared.call.ResourceCall.TheVariants.{FindType}
-use Rattle.heap_model.specs.declared.call.Reply.TheVariants.{Number}
-use Rattle.heap_model.specs.declared.refusal.Refusal.TheVariants.{ResourceNotFound}
-use Rattle.laws_store.proofs.CallSteps.{same_store, asks, refused}
 use Rattle.palm_store.specs.Databases.{HasDatabase}
-use Rattle.palm_store.specs.Replies.{number_or_refused}
-use Rattle.palm_store.specs.Checks.{opening_checks}
 use Rattle.palm_store.specs.declared.opening.Access.TheVariants.{Read}
 use Rattle.palm_store.specs.declared.opening.EntryKind.TheVariants.{Resources}
-use Rattle.palm_store.proofs.SearchLaws.{entries_read, counted_more}
 use Rattle.resource_db.specs.Resources.{IsNth}
 
 -- at most as many are before an index as there are in all

@@ -1,14 +1,5 @@
 -- The bytes of all entries are those of the records with their new attributes.
-use Rattle.std.proofs.Common.{◌+◌, ◌-◌, length, ap, List, ℕ}
-use Rattle.std.specs.Prelude.{slice_range}
-use Rattle.heap_model.specs.Store.{bytes_under}
-use Rattle.heap_model.specs.Leaving.{database_here}
-use Rattle.heap_model.specs.Database.{spelled}
-use Rattle.heap_model.specs.Bytes.{overwritten}
-use Rattle.raw_region.specs.ByteChanges.{changed_every}
-use Rattle.database_edits.specs.Recorded.{attributes_changed}
-use Rattle.database_edits.proofs.Databases.{managers}
-use Rattle.database_edits.proofs.Chunks.{written, leaves_as}
+use Rattle.database_edits.proofs.Laws.{◌+◌, ◌-◌, length, ap, List, ℕ, slice_range, bytes_under, database_here, spelled, overwritten, changed_every, attributes_changed, managers, written, leaves_as}
 use Rattle.database_edits.proofs.Recorded.{body_changed}
 use Rattle.database_edits.proofs.attributes.change_attributes.Goals as goal
 

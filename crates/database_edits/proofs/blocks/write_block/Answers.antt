@@ -1,10 +1,5 @@
 -- The block is named first, and then the number is raised.
-use Rattle.std.proofs.Common.{refl, arith}
-use Rattle.heap_model.specs.StoreWords.{next_modification}
-use Rattle.heap_model.specs.Leaving.{database_here}
-use Rattle.database_edits.proofs.Kept.{writes_then}
-use Rattle.database_edits.proofs.HeadersHere.{room_here}
-use Rattle.database_edits.proofs.InfoBlocks.{block_fits, block_written}
+use Rattle.database_edits.proofs.Laws.{refl, arith, next_modification, database_here, writes_then, room_here, block_fits, block_written}
 use Rattle.database_edits.proofs.blocks.write_block.Goals as goal
 
 pub put_info_block-requires : goal.put_info_block-requires

@@ -1,10 +1,5 @@
 -- There are as many entries as the header says, and of the kind that it says.
-use Rattle.std.proofs.Common.{◌+◌, ◌≤◌, ℕ, List, length, sym, ap, subst, ◌∙◌, arith}
-use Rattle.heap_model.specs.DatabaseFields.{header_size}
-use Rattle.heap_model.specs.Database.{resources_in, entry_offset}
-use Rattle.heap_model.specs.Store.{bytes_under}
-use Rattle.database_edits.proofs.Databases.{shape, kind_read}
-use Rattle.database_edits.proofs.Entries.{inside_body}
+use Rattle.database_edits.proofs.Laws.{◌+◌, ◌≤◌, ℕ, List, length, sym, ap, subst, ◌∙◌, arith, header_size, resources_in, entry_offset, bytes_under, shape, kind_read, inside_body}
 use Rattle.database_edits.proofs.bodies.entry_here.Goals as goal
 
 pub read-requires-clause-header : goal.read-requires-clause-header

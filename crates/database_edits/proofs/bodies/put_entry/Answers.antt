@@ -1,13 +1,5 @@
 -- An entry takes as many bytes as entries of its kind do.
-use Rattle.std.proofs.Common.{◌≡◌, ℕ, List, length, refl, sym, ap, subst, ◌∙◌}
-use Rattle.heap_model.specs.Bytes.{overwritten}
-use Rattle.heap_model.specs.Database.{entry_bytes, entry_offset}
-use Rattle.heap_model.specs.Store.{bytes_under}
-use Rattle.db_format.specs.declared.db_entry.DbEntry.{DbEntry}
-use Rattle.db_format.specs.EitherEntry.{entry_of}
-use Rattle.database_edits.specs.Managers.{Rebodies}
-use Rattle.database_edits.proofs.Chunks.{length_kept}
-use Rattle.database_edits.proofs.Entries.{entry_fits, entry_most}
+use Rattle.database_edits.proofs.Laws.{◌≡◌, ℕ, List, length, refl, sym, ap, subst, ◌∙◌, overwritten, entry_bytes, entry_offset, bytes_under, DbEntry, entry_of, Rebodies, length_kept, entry_fits, entry_most}
 use Rattle.database_edits.proofs.bodies.put_entry.Goals as goal
 
 pub put_part-requires-clause-inside : goal.put_part-requires-clause-inside

@@ -1,11 +1,6 @@
 -- The range is that of the entries.
-use Rattle.std.proofs.Common.{ℕ, List, ◌+◌, ◌-◌}
-use Rattle.heap_model.specs.Bytes.{overwritten}
-use Rattle.std.specs.Prelude.{slice_range}
-use Rattle.heap_model.specs.Database.{entry_offset}
-use Rattle.heap_model.specs.Store.{bytes_under}
-use Rattle.database_edits.proofs.Chunks.{written, length_kept, stays}
-use Rattle.database_edits.proofs.Entries.{offset_order, slid_range, slice_most, slide_fits, none_slid}
+use Rattle.database_edits.proofs.Laws.{ℕ, List, ◌+◌, ◌-◌, overwritten, slice_range, entry_offset, bytes_under, written, length_kept, stays, offset_order, slid_range, slice_most, slide_fits}
+use Rattle.database_edits.proofs.Entries.{none_slid}
 use Rattle.database_edits.proofs.bodies.slide_entries.Goals as goal
 
 pub returns-clause-slides : goal.returns-clause-slides

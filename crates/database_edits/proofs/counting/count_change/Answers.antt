@@ -1,12 +1,5 @@
 -- The header that is written is that of the database with its number raised.
-use Rattle.std.proofs.Common.{ℕ, length, refl, sym, ap, ◌∙◌}
-use Rattle.heap_model.specs.Database.{Database}
-use Rattle.heap_model.specs.StoreWords.{next_modification}
-use Rattle.heap_model.specs.Leaving.{database_here}
-use Rattle.database_edits.specs.Edits.{counted}
-use Rattle.database_edits.proofs.Databases.{counted_fits}
-use Rattle.database_edits.proofs.HeadersHere.{room_here}
-use Rattle.database_edits.proofs.RaisedNumbers.{raised, spells_now, database_now}
+use Rattle.database_edits.proofs.Laws.{ℕ, length, refl, sym, ap, ◌∙◌, Database, next_modification, database_here, counted, counted_fits, room_here, raised, spells_now, database_now}
 use Rattle.database_edits.proofs.counting.count_change.Goals as goal
 
 pub put_modification_number-requires : goal.put_modification_number-requires

@@ -1,10 +1,5 @@
 -- Where nothing is asked, nothing changes.
-use Rattle.std.proofs.Common.{Bool, sym, subst}
-use Rattle.heap_model.specs.Database.{spelled}
-use Rattle.heap_model.specs.Leaving.{Respells, database_here}
-use Rattle.database_edits.specs.Edits.{counted_if}
-use Rattle.database_edits.proofs.Chunks.{unchanged}
-use Rattle.database_edits.proofs.Databases.{managers}
+use Rattle.database_edits.proofs.Laws.{Bool, sym, subst, spelled, Respells, database_here, counted_if, unchanged, managers}
 use Rattle.database_edits.proofs.counting.count_change_if.Goals as goal
 
 pub returns-then-counts-clause-counted : goal.returns-then-counts-clause-counted

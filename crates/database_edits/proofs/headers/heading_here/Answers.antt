@@ -1,10 +1,5 @@
 -- The fields that are read are those of the database.
-use Rattle.std.proofs.Common.{◌≤◌, ℕ, List, length, sym, ap, subst, ◌∙◌}
-use Rattle.heap_model.specs.Bytes.{u32_at}
-use Rattle.heap_model.specs.DatabaseFields.{header_size}
-use Rattle.heap_model.specs.Database.{resources_in}
-use Rattle.database_edits.proofs.Databases.{header_inside}
-use Rattle.database_edits.proofs.HeadersHere.{is_heading}
+use Rattle.database_edits.proofs.Laws.{◌≤◌, ℕ, List, length, sym, ap, subst, ◌∙◌, u32_at, header_size, resources_in, header_inside, is_heading}
 use Rattle.database_edits.proofs.headers.heading_here.Goals as goal
 
 pub has_resources-requires : goal.has_resources-requires

@@ -1,7 +1,5 @@
 -- The field is written into the header, and the rest of the chunk stays.
-use Rattle.std.proofs.Common.{arith}
-use Rattle.db_format.specs.Headers.{HasEntryCount}
-use Rattle.database_edits.proofs.HeadersHere.{field_put, header_kept}
+use Rattle.database_edits.proofs.Laws.{arith, HasEntryCount, field_put, header_kept}
 use Rattle.database_edits.proofs.headers.put_entry_count.Goals as goal
 
 pub returns-clause-puts : goal.returns-clause-puts

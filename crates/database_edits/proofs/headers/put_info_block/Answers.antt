@@ -1,11 +1,5 @@
 -- The field is written into the header, and the rest of the chunk stays.
-use Rattle.std.proofs.Common.{ℕ, subst, arith}
-use Rattle.heap_model.specs.Maps.{put}
-use Rattle.heap_model.specs.Reading.{held}
-use Rattle.heap_model.specs.Leaving.{Leaves}
-use Rattle.db_format.specs.Headers.{HasInfoBlock, info_block_at}
-use Rattle.database_edits.proofs.HeadersHere.{field_put, header_kept}
-use Rattle.database_edits.proofs.InfoBlocks.{block_within}
+use Rattle.database_edits.proofs.Laws.{ℕ, subst, arith, put, held, Leaves, HasInfoBlock, info_block_at, field_put, header_kept, block_within}
 use Rattle.database_edits.proofs.headers.put_info_block.Goals as goal
 
 pub returns-clause-puts : goal.returns-clause-puts

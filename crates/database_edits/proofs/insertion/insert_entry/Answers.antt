@@ -1,15 +1,7 @@
 -- The chunk has the room of an entry more, those after slide into it, and the header is written
 -- field by field.
-use Rattle.std.proofs.Common.{ℕ, Bool, ◌+◌, refl, sym, ap, subst, ◌∙◌}
-use Rattle.heap_model.specs.Database.{Entry, Database}
-use Rattle.heap_model.specs.Leaving.{database_here}
-use Rattle.heap_model.specs.StoreWords.{next_modification}
-use Rattle.db_format.specs.EitherEntry.{entry_of, is_resource}
+use Rattle.database_edits.proofs.Laws.{ℕ, Bool, ◌+◌, refl, sym, ap, subst, ◌∙◌, Entry, Database, database_here, next_modification, entry_of, is_resource, HasNoRoomForEntry, entry_inserted, writes_then, slides_then, none_slid, is_movable, heading_spelled}
 use Rattle.laws_heap.proofs.Results.{on_err}
-use Rattle.database_edits.proofs.Kept.{writes_then, slides_then, none_slid}
-use Rattle.database_edits.specs.Edits.{HasNoRoomForEntry, entry_inserted}
-use Rattle.database_edits.proofs.Chunks.{is_movable}
-use Rattle.database_edits.proofs.HeadersHere.{heading_spelled}
 use Rattle.database_edits.proofs.InsertedEntries.{short_of, same_name, inserted, inserted_header, inserted_kept}
 use Rattle.database_edits.proofs.insertion.insert_entry.Goals as goal
 

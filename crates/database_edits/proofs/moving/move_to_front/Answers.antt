@@ -1,9 +1,5 @@
 -- Those between slide to the back over the entry.
-use Rattle.std.proofs.Common.{◌∙◌, ◌+◌, ◌-◌, arith}
-use Rattle.db_format.specs.EitherEntry.{entry_of}
-use Rattle.database_edits.proofs.Kept.{slides_then, none_slid}
-use Rattle.database_edits.proofs.Entries.{inside_body}
-use Rattle.database_edits.proofs.Crossed.{went_front}
+use Rattle.database_edits.proofs.Laws.{◌∙◌, ◌+◌, ◌-◌, arith, entry_of, slides_then, none_slid, inside_body, went_front}
 use Rattle.database_edits.proofs.moving.move_to_front.Goals as goal
 
 pub slide_entries-requires-clause-from_inside : goal.slide_entries-requires-clause-from_inside

@@ -1,10 +1,6 @@
 -- What follows the entry slides over it, the header is written field by field, and then the chunk
 -- shrinks.
-use Rattle.std.proofs.Common.{refl, ◌+◌, ◌-◌, arith}
-use Rattle.heap_model.specs.Leaving.{database_here}
-use Rattle.database_edits.proofs.Kept.{writes_then, slides_then, none_slid}
-use Rattle.database_edits.specs.Edits.{entry_removed}
-use Rattle.database_edits.proofs.Entries.{inside_body}
+use Rattle.database_edits.proofs.Laws.{refl, ◌+◌, ◌-◌, arith, database_here, entry_removed, writes_then, slides_then, none_slid, inside_body}
 use Rattle.database_edits.proofs.RemovedEntries.{removed, slid_kept, header_written}
 use Rattle.database_edits.proofs.removal.remove_entry.Goals as goal
 

@@ -1,11 +1,5 @@
 -- The number is raised first, and the entry moves then.
-use Rattle.std.proofs.Common.{◌≤◌, ◌<◌, ℕ, length, sym, subst}
-use Rattle.heap_model.specs.Lists.{moved}
-use Rattle.heap_model.specs.Database.{Database}
-use Rattle.heap_model.specs.Leaving.{Respells, database_here}
-use Rattle.database_edits.proofs.Kept.{slides_then, none_slid}
-use Rattle.database_edits.specs.Edits.{counted, entry_moved}
-use Rattle.database_edits.proofs.RaisedNumbers.{respells_twice}
+use Rattle.database_edits.proofs.Laws.{◌≤◌, ◌<◌, ℕ, length, sym, subst, moved, Database, Respells, database_here, counted, entry_moved, slides_then, none_slid, respells_twice}
 use Rattle.database_edits.proofs.replacement.move_entry.Goals as goal
 
 pub move_entry-requires-clause-from_inside : goal.move_entry-requires-clause-from_inside

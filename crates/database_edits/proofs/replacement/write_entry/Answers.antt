@@ -1,12 +1,5 @@
 -- The number is raised first, and the entry is written then.
-use Rattle.std.proofs.Common.{◌<◌, ℕ, List, length, sym, ap, subst, ◌∙◌}
-use Rattle.heap_model.specs.Database.{Entry, Database, has_resources}
-use Rattle.heap_model.specs.Leaving.{Respells, database_here}
-use Rattle.db_format.specs.EitherEntry.{entry_of}
-use Rattle.db_format.specs.Entries.{with_entry}
-use Rattle.database_edits.proofs.Kept.{writes_then}
-use Rattle.database_edits.specs.Edits.{counted_if, entry_written}
-use Rattle.database_edits.proofs.RaisedNumbers.{respells_twice, counted_entries, counted_attributes, counted_entry}
+use Rattle.database_edits.proofs.Laws.{◌<◌, ℕ, List, length, sym, ap, subst, ◌∙◌, Entry, Database, has_resources, Respells, database_here, entry_of, with_entry, counted_if, entry_written, writes_then, respells_twice, counted_entries, counted_attributes, counted_entry}
 use Rattle.database_edits.proofs.replacement.write_entry.Goals as goal
 
 pub write_entry-requires-clause-inside : goal.write_entry-requires-clause-inside

@@ -1,6 +1,5 @@
 -- The bytes that are written put the entry in the other's place.
-use Rattle.std.proofs.Common.{◌+◌, ◌∙◌, arith, sym}
-use Rattle.db_format.specs.EitherEntry.{entry_of}
+use Rattle.database_edits.proofs.Words.{◌+◌, ◌∙◌, arith, sym, entry_of}
 use Rattle.database_edits.proofs.Entries.{entry_written, inside_body}
 use Rattle.database_edits.proofs.writing.write_entry.Goals as goal
 

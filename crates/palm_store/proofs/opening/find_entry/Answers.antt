@@ -1,7 +1,5 @@
 -- The entry is of the kind of the database.
-use Rattle.std.proofs.Common.{subst}
-use Rattle.heap_model.specs.declared.names.Db.{Db}
-use Rattle.palm_store.specs.Checks.{IsTold}
+use Rattle.palm_store.proofs.Words.{subst, Db, IsTold}
 use Rattle.palm_store.proofs.OpenedEntries.{told_kind}
 use Rattle.palm_store.proofs.opening.find_entry.Goals as goal
 

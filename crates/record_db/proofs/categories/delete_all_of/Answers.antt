@@ -1,12 +1,7 @@
 -- Each turn deletes the next record of the category.
-use Rattle.std.proofs.Common.{◌≡◌, ◌∙◌, length, Option, refl, ap, arith}
-use Rattle.heap_model.specs.Store.{StoredDatabase, store_of}
-use Rattle.heap_model.specs.EntrySteps.{entries_of, entries_in}
+use Rattle.record_db.proofs.Laws.{◌≡◌, ◌∙◌, length, Option, refl, ap, arith, StoredDatabase, store_of, entries_of, entries_in, writes_then, here, deleted_none, deleted_next, deleted_all, first_inside, kind_there, passed_to, passed_all, next_unlocked, within_some}
 use Rattle.laws_heap.proofs.KeptLoans.{keeps_itself}
-use Rattle.palm_store.proofs.Rests.{writes_then}
 use Rattle.palm_store.proofs.EntriesHere.{count_fits}
-use Rattle.palm_store.proofs.OpenedEntries.{here}
-use Rattle.record_db.proofs.CategoryTurns.{deleted_none, deleted_next, deleted_all, first_inside, kind_there, passed_to, passed_all, next_unlocked, within_some}
 use Rattle.record_db.proofs.categories.delete_all_of.Goals as goal
 
 pub loop-index-init : goal.loop-index-init

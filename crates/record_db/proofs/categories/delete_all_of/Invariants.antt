@@ -1,11 +1,7 @@
 -- The records of the category before the index where the search goes on are deleted. Nothing else
 -- has changed.
-use Rattle.std.proofs.Common.{◌≤◌, ◌-◌, length}
-use Rattle.heap_model.specs.Store.{store_of}
-use Rattle.heap_model.specs.EntrySteps.{entries_in, MakesNone}
-use Rattle.palm_store.specs.EntryCalls.{OnlyWrites}
+use Rattle.record_db.proofs.Laws.{◌≤◌, ◌-◌, length, store_of, entries_in, MakesNone, OnlyWrites, HasDeletedSome}
 use Rattle.palm_store.specs.Opened.{IsOpened}
-use Rattle.record_db.proofs.CategoryTurns.{HasDeletedSome}
 use Rattle.record_db.proofs.categories.delete_all_of.Given as goal
 
 abbrev pub invariant-loop-index : goal.invariant-loop-index

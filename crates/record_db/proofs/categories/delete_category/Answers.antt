@@ -1,14 +1,6 @@
 -- The records of the category are deleted, and then the call is counted.
-use Rattle.std.proofs.Common.{refl, inl, inr}
-use Rattle.heap_model.specs.Store.{store_of}
-use Rattle.heap_model.specs.RecordSteps.{category_deleted}
+use Rattle.record_db.proofs.Words.{refl, inl, inr, store_of, category_deleted, DeleteCategory, Done, ChunkLocked, refused, changes, writes_then, raised_after}
 use Rattle.heap_model.specs.declared.call.Call.TheVariants as calls
-use Rattle.heap_model.specs.declared.call.RecordCall.TheVariants.{DeleteCategory}
-use Rattle.heap_model.specs.declared.call.Reply.TheVariants.{Done}
-use Rattle.heap_model.specs.declared.refusal.Refusal.TheVariants.{ChunkLocked}
-use Rattle.laws_store.proofs.CallSteps.{refused, changes}
-use Rattle.palm_store.proofs.Rests.{writes_then}
-use Rattle.palm_store.proofs.TwoChanges.{raised_after}
 use Rattle.record_db.proofs.categories.delete_category.Goals as goal
 
 pub returns-then-has_locked_of-clause-does : goal.returns-then-has_locked_of-clause-does

@@ -1,16 +1,7 @@
 -- The attributes are changed, and then the call is counted.
-use Rattle.std.proofs.Common.{refl, map}
-use Rattle.heap_model.specs.Store.{store_of}
-use Rattle.heap_model.specs.EntrySteps.{with_entries}
-use Rattle.heap_model.specs.Categories.{moved_category}
+use Rattle.record_db.proofs.Words.{refl, map, store_of, with_entries, moved_category, MoveCategory, Done, changes, here, writes_then, raised_after}
 use Rattle.heap_model.specs.declared.call.Call.TheVariants as calls
-use Rattle.heap_model.specs.declared.call.RecordCall.TheVariants.{MoveCategory}
-use Rattle.heap_model.specs.declared.call.Reply.TheVariants.{Done}
-use Rattle.laws_store.proofs.CallSteps.{changes}
-use Rattle.palm_store.proofs.OpenedEntries.{here}
 use Rattle.record_db.proofs.Moved.{below_categories, may_move, category_moved}
-use Rattle.palm_store.proofs.Rests.{writes_then}
-use Rattle.palm_store.proofs.TwoChanges.{raised_after}
 use Rattle.record_db.proofs.categories.move_category.Goals as goal
 
 pub change_attributes-requires-clause-change : goal.change_attributes-requires-clause-change

@@ -1,9 +1,4 @@
-use Rattle.std.proofs.Common.{ℕ, List, ◌∙◌, sym, subst}
-use Rattle.std.specs.Prelude.{IfSome, IfNone}
-use Rattle.heap_model.specs.Database.{Entry}
-use Rattle.heap_model.specs.Categories.{IsOf}
-use Rattle.palm_store.specs.Search.{IsFirst, NoneBehind}
-use Rattle.palm_store.proofs.SearchLaws.{entries_read, kind_read}
+use Rattle.record_db.proofs.Words.{ℕ, List, ◌∙◌, sym, subst, IfSome, IfNone, Entry, IsOf, IsFirst, NoneBehind, entries_read, kind_read}
 use Rattle.record_db.proofs.categories.next_of.Goals as goal
 
 pub first_of-requires : goal.first_of-requires

@@ -1,6 +1,5 @@
 -- The data of a record that is not deleted has a name.
-use Rattle.heap_model.specs.Database.{a_record}
-use Rattle.palm_store.proofs.OpenedEntries.{data_named}
+use Rattle.record_db.proofs.Words.{a_record, data_named}
 use Rattle.record_db.proofs.changing.delete.Goals as goal
 
 pub is_locked-requires : goal.is_locked-requires

@@ -1,16 +1,6 @@
 -- The call is refused if the record is busy. Otherwise it sets the busy bit.
-use Rattle.std.proofs.Common.{◌≡◌, ℕ, false, true, Option, refl, sym, ap, subst, bit_or, ◌∙◌, inl, inr}
-use Rattle.heap_model.specs.Database.{Entry}
-use Rattle.heap_model.specs.Store.{store_of}
-use Rattle.heap_model.specs.EntrySteps.{entry_under, entry_changed, with_attributes, OfEntry, data_of_entry}
-use Rattle.heap_model.specs.declared.names.Db.{Db}
-use Rattle.palm_store.specs.EntryCalls.{LeavesChanged}
-use Rattle.heap_model.specs.RecordSteps.{busy_bit, is_busy, HasAttributes}
+use Rattle.record_db.proofs.Words.{◌≡◌, ℕ, false, true, Option, refl, sym, ap, subst, bit_or, ◌∙◌, inl, inr, Entry, store_of, entry_under, entry_changed, with_attributes, OfEntry, data_of_entry, Db, LeavesChanged, busy_bit, is_busy, HasAttributes, Get, Named, RecordBusy, refused, changes}
 use Rattle.heap_model.specs.declared.call.Call.TheVariants as calls
-use Rattle.heap_model.specs.declared.call.RecordCall.TheVariants.{Get}
-use Rattle.heap_model.specs.declared.call.Reply.TheVariants.{Named}
-use Rattle.heap_model.specs.declared.refusal.Refusal.TheVariants.{RecordBusy}
-use Rattle.laws_store.proofs.CallSteps.{refused, changes}
 use Rattle.record_db.proofs.changing.get.Goals as goal
 
 pub returns-then-is_busy-clause-does : goal.returns-then-is_busy-clause-does

@@ -1,16 +1,6 @@
 -- The record keeps its ID and its data, and only its attributes change.
-use Rattle.std.proofs.Common.{false, ap, ◌∙◌, refl}
-use Rattle.heap_model.specs.Database.{is_deleted}
-use Rattle.heap_model.specs.Store.{store_of}
-use Rattle.heap_model.specs.EntrySteps.{entry_under}
-use Rattle.heap_model.specs.RecordSteps.{released}
+use Rattle.record_db.proofs.Laws.{false, ap, ◌∙◌, refl, is_deleted, store_of, entry_under, released, Release, Done, changes, released_deleted, info_is, no_data, may_have, attributes_set}
 use Rattle.heap_model.specs.declared.call.Call.TheVariants as calls
-use Rattle.heap_model.specs.declared.call.RecordCall.TheVariants.{Release}
-use Rattle.heap_model.specs.declared.call.Reply.TheVariants.{Done}
-use Rattle.laws_store.proofs.CallSteps.{changes}
-use Rattle.record_db.proofs.Bits.{released_deleted}
-use Rattle.record_db.proofs.Entries.{info_is, no_data}
-use Rattle.record_db.proofs.SetAttributes.{may_have, attributes_set}
 use Rattle.record_db.proofs.changing.release.Goals as goal
 
 pub entry_set-requires-clause-info : goal.entry_set-requires-clause-info

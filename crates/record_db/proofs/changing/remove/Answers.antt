@@ -1,13 +1,6 @@
 -- The call is refused if the data is locked. Otherwise it drops the entry.
-use Rattle.std.proofs.Common.{refl, subst, inl, inr}
-use Rattle.heap_model.specs.EntrySteps.{entry_dropped, raised}
-use Rattle.heap_model.specs.declared.names.Db.{Db}
+use Rattle.record_db.proofs.Words.{refl, subst, inl, inr, entry_dropped, raised, Db, Remove, Done, ChunkLocked, refused, changes, LeavesChanged}
 use Rattle.heap_model.specs.declared.call.Call.TheVariants as calls
-use Rattle.heap_model.specs.declared.call.RecordCall.TheVariants.{Remove}
-use Rattle.heap_model.specs.declared.call.Reply.TheVariants.{Done}
-use Rattle.heap_model.specs.declared.refusal.Refusal.TheVariants.{ChunkLocked}
-use Rattle.laws_store.proofs.CallSteps.{refused, changes}
-use Rattle.palm_store.specs.EntryCalls.{LeavesChanged}
 use Rattle.record_db.proofs.Entries.{data_named, locked_data}
 use Rattle.record_db.proofs.changing.remove.Goals as goal
 

@@ -1,21 +1,8 @@
 -- The new ID is the record's own, or no record has it.
-use Rattle.std.proofs.Common.{◌≡◌, ◌∙◌, ℕ, sym, ap, subst, true, inl, inr, refl}
-use Rattle.std.specs.Prelude.{◌⊎◌}
-use Rattle.heap_model.specs.Database.{a_record, is_deleted}
-use Rattle.heap_model.specs.Store.{store_of}
-use Rattle.heap_model.specs.EntrySteps.{entries_in, entry_under, HasId, resources_under}
-use Rattle.heap_model.specs.RecordSteps.{attributes_set, id_set, with_record_info}
+use Rattle.record_db.proofs.Laws.{◌≡◌, ◌∙◌, ℕ, sym, ap, subst, true, inl, inr, refl, ◌⊎◌, a_record, is_deleted, store_of, entries_in, entry_under, HasId, resources_under, id_set, with_record_info, SetInfo, Done, changes, with_info, CanHave, SomeHas, set_as, set_deleted, info_is, no_data, may_have_id, no_other}
+use Rattle.record_db.proofs.Words.{attributes_set}
 use Rattle.heap_model.specs.declared.call.Call.TheVariants as calls
-use Rattle.heap_model.specs.declared.call.RecordCall.TheVariants.{SetInfo}
-use Rattle.heap_model.specs.declared.call.Reply.TheVariants.{Done}
-use Rattle.laws_store.proofs.CallSteps.{changes}
-use Rattle.palm_store.specs.EntryInfos.{with_info, CanHave}
 use Rattle.palm_store.specs.declared.entries.infos.EntryInfo.TheVariants as infos
-use Rattle.palm_store.specs.Search.{SomeHas}
-use Rattle.record_db.proofs.Bits.{set_deleted}
-use Rattle.record_db.proofs.Entries.{info_is, no_data}
-use Rattle.palm_store.proofs.EntriesChanged.{set_as}
-use Rattle.record_db.proofs.SetAttributes.{may_have_id, no_other}
 use Rattle.record_db.proofs.changing.set_record_info.Goals as goal
 use Rattle.record_db.proofs.changing.set_record_info.Goals.{else-id-found-via-then-id-found+else-has_id, else-id-found-via-else-id-found}
 

@@ -1,15 +1,6 @@
 -- A refusal of the entry is one of the call, which has changed nothing.
-use Rattle.std.proofs.Common.{ℕ, sym, subst, inr}
-use Rattle.heap_model.specs.Memory.{Memory}
-use Rattle.heap_model.specs.Refusals.{FirstBrings}
-use Rattle.heap_model.specs.StoreSteps.{DoesInStore}
+use Rattle.record_db.proofs.Words.{ℕ, sym, subst, inr, Memory, FirstBrings, DoesInStore, Attach, Number, Refused, Db, Refusal, refused, handed_on, checks_of_attaching}
 use Rattle.heap_model.specs.declared.call.Call.TheVariants as calls
-use Rattle.heap_model.specs.declared.call.RecordCall.TheVariants.{Attach}
-use Rattle.heap_model.specs.declared.call.Reply.TheVariants.{Number, Refused}
-use Rattle.heap_model.specs.declared.names.Db.{Db}
-use Rattle.heap_model.specs.declared.refusal.Refusal.{Refusal}
-use Rattle.laws_store.proofs.CallSteps.{refused, handed_on}
-use Rattle.palm_store.specs.EntryCalls.{checks_of_attaching}
 use Rattle.record_db.proofs.giving.attach.Goals as goal
 
 pub returns-in_err-entry_attach-clause-does : goal.returns-in_err-entry_attach-clause-does

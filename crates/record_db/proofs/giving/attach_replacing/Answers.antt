@@ -1,12 +1,6 @@
 -- The record gets the chunk for its data, and only its dirty bit changes.
-use Rattle.std.proofs.Common.{ℕ, sym, ap, bit_or, refl}
-use Rattle.heap_model.specs.Categories.{dirty_bit}
-use Rattle.heap_model.specs.EntrySteps.{data_of_entry}
+use Rattle.record_db.proofs.Laws.{ℕ, sym, ap, bit_or, refl, dirty_bit, data_of_entry, AttachReplacing, Named, changes, data_swapped}
 use Rattle.heap_model.specs.declared.call.Call.TheVariants as calls
-use Rattle.heap_model.specs.declared.call.RecordCall.TheVariants.{AttachReplacing}
-use Rattle.heap_model.specs.declared.call.Reply.TheVariants.{Named}
-use Rattle.laws_store.proofs.CallSteps.{changes}
-use Rattle.record_db.proofs.SetAttributes.{data_swapped}
 use Rattle.record_db.proofs.giving.attach_replacing.Goals as goal
 
 pub returns-clause-does : goal.returns-clause-does

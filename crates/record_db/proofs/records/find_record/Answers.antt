@@ -1,8 +1,5 @@
 -- The entry of a record database is a record.
-use Rattle.std.proofs.Common.{sym, ap, subst, ◌∙◌}
-use Rattle.std.specs.Prelude.{is_some}
-use Rattle.palm_store.specs.Checks.{IsTold}
-use Rattle.palm_store.proofs.OpenedEntries.{records_told, as_record_told}
+use Rattle.record_db.proofs.Words.{sym, ap, subst, ◌∙◌, is_some, IsTold, records_told, as_record_told}
 use Rattle.record_db.proofs.records.find_record.Goals as goal
 
 pub unwrap-requires : goal.unwrap-requires

@@ -1,9 +1,4 @@
-use Rattle.std.proofs.Common.{ℕ, List, sym, subst}
-use Rattle.std.specs.Prelude.{◌↔◌, IsTrue}
-use Rattle.heap_model.specs.Database.{Entry}
-use Rattle.heap_model.specs.EntrySteps.{HasId}
-use Rattle.palm_store.specs.Search.{SomeHas}
-use Rattle.palm_store.proofs.SearchLaws.{entries_read, found_or_none}
+use Rattle.record_db.proofs.Words.{ℕ, List, sym, subst, ◌↔◌, IsTrue, Entry, HasId, SomeHas, entries_read, found_or_none}
 use Rattle.record_db.proofs.records.has_id.Goals as goal
 
 pub returns : goal.returns

@@ -1,7 +1,5 @@
-use Rattle.std.proofs.Common.{ℕ, ◌+◌, sym, ap, ◌∙◌}
-use Rattle.heap_model.specs.Categories.{is_of}
+use Rattle.record_db.proofs.Words.{ℕ, ◌+◌, sym, ap, ◌∙◌, is_of, counted_more, counted_same}
 use Rattle.db_format.specs.Entries.{record_of}
-use Rattle.palm_store.proofs.SearchLaws.{counted_more, counted_same}
 use Rattle.record_db.proofs.search.count_of.Goals as goal
 use Rattle.record_db.proofs.search.count_of.Goals.{then-has_category, else-has_category}
 

@@ -1,6 +1,5 @@
 -- The count is that of the records of the category among those that were passed.
-use Rattle.std.proofs.Common.{◌≡◌, take, count_by}
-use Rattle.heap_model.specs.Categories.{is_of}
+use Rattle.record_db.proofs.Words.{◌≡◌, take, count_by, is_of}
 use Rattle.record_db.proofs.search.count_of.Given as goal
 
 abbrev pub invariant-loop-index : goal.invariant-loop-index

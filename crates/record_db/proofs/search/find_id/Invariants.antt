@@ -1,6 +1,5 @@
 -- None of the records that were passed has the ID.
-use Rattle.heap_model.specs.EntrySteps.{HasId}
-use Rattle.palm_store.proofs.SearchLaws.{NoneUntil}
+use Rattle.record_db.proofs.Words.{HasId, NoneUntil}
 use Rattle.record_db.proofs.search.find_id.Given as goal
 
 abbrev pub invariant-loop-index : goal.invariant-loop-index

@@ -1,6 +1,5 @@
 -- None of the records that were passed is of the category.
-use Rattle.heap_model.specs.Categories.{IsOf}
-use Rattle.palm_store.proofs.SearchLaws.{NoneUntil}
+use Rattle.record_db.proofs.Words.{IsOf, NoneUntil}
 use Rattle.record_db.proofs.search.first_of.Given as goal
 
 abbrev pub invariant-loop-index : goal.invariant-loop-index

@@ -1,9 +1,5 @@
-use Rattle.std.proofs.Common.{ℕ, Result, sym, subst}
-use Rattle.heap_model.specs.StoreSteps.{DoesInStore}
+use Rattle.resource_db.proofs.Words.{ℕ, Result, sym, subst, DoesInStore, FindType, Refusal, number_or_refused}
 use Rattle.heap_model.specs.declared.call.Call.TheVariants as calls
-use Rattle.heap_model.specs.declared.call.ResourceCall.TheVariants.{FindType}
-use Rattle.heap_model.specs.declared.refusal.Refusal.{Refusal}
-use Rattle.palm_store.specs.Replies.{number_or_refused}
 use Rattle.resource_db.proofs.Types.{found_type}
 use Rattle.resource_db.proofs.asking.find_type.Goals as goal
 

@@ -1,16 +1,6 @@
 -- The call is refused if the data is locked. Otherwise it drops the entry.
-use Rattle.std.proofs.Common.{refl, sym, ap, subst, inl, inr}
-use Rattle.heap_model.specs.Database.{a_resource}
-use Rattle.heap_model.specs.EntrySteps.{data_of_entry, entry_dropped, raised}
-use Rattle.heap_model.specs.declared.names.Db.{Db}
+use Rattle.resource_db.proofs.Words.{refl, sym, ap, subst, inl, inr, a_resource, data_of_entry, entry_dropped, raised, Db, Remove, Done, ChunkLocked, refused, changes, IsLockedChunk, HasLockedData, LeavesChanged, data_named}
 use Rattle.heap_model.specs.declared.call.Call.TheVariants as calls
-use Rattle.heap_model.specs.declared.call.ResourceCall.TheVariants.{Remove}
-use Rattle.heap_model.specs.declared.call.Reply.TheVariants.{Done}
-use Rattle.heap_model.specs.declared.refusal.Refusal.TheVariants.{ChunkLocked}
-use Rattle.laws_store.proofs.CallSteps.{refused, changes}
-use Rattle.palm_store.specs.Checks.{IsLockedChunk}
-use Rattle.palm_store.specs.EntryCalls.{HasLockedData, LeavesChanged}
-use Rattle.palm_store.proofs.OpenedEntries.{data_named}
 use Rattle.resource_db.proofs.changing.remove_resource.Goals as goal
 
 pub is_locked-requires : goal.is_locked-requires

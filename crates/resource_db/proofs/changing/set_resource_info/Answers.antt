@@ -1,11 +1,6 @@
 -- The resource keeps its data, and only its type and ID change.
-use Rattle.std.proofs.Common.{refl, true}
-use Rattle.heap_model.specs.Database.{a_resource}
-use Rattle.heap_model.specs.ResourceSteps.{with_type_and_id}
+use Rattle.resource_db.proofs.Words.{refl, true, a_resource, with_type_and_id, SetInfo, Done, changes}
 use Rattle.heap_model.specs.declared.call.Call.TheVariants as calls
-use Rattle.heap_model.specs.declared.call.ResourceCall.TheVariants.{SetInfo}
-use Rattle.heap_model.specs.declared.call.Reply.TheVariants.{Done}
-use Rattle.laws_store.proofs.CallSteps.{changes}
 use Rattle.palm_store.specs.EntryInfos.{with_info}
 use Rattle.palm_store.specs.declared.entries.infos.EntryInfo.TheVariants as infos
 use Rattle.palm_store.proofs.EntriesChanged.{set_as}

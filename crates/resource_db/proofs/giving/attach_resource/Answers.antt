@@ -1,19 +1,7 @@
 -- The index is the count of the entries. A refusal of the entry is one of the call, which has
 -- changed nothing.
-use Rattle.std.proofs.Common.{◌≡◌, ℕ, length, refl, sym, ap, subst, ◌∙◌, inr}
-use Rattle.heap_model.specs.Database.{Entry, a_resource}
-use Rattle.heap_model.specs.Memory.{Memory}
-use Rattle.heap_model.specs.Refusals.{NoneHolds, FirstBrings}
-use Rattle.heap_model.specs.Store.{store_of}
-use Rattle.heap_model.specs.EntrySteps.{entries_in, entry_attached, raised}
-use Rattle.heap_model.specs.StoreSteps.{DoesInStore}
+use Rattle.resource_db.proofs.Words.{◌≡◌, ℕ, length, refl, sym, ap, subst, ◌∙◌, inr, Entry, a_resource, Memory, NoneHolds, FirstBrings, store_of, entries_in, entry_attached, raised, DoesInStore, Attach, Number, Refused, Db, Refusal, refused, handed_on, changes, checks_of_attaching, LeavesAttached, LeavesChanged}
 use Rattle.heap_model.specs.declared.call.Call.TheVariants as calls
-use Rattle.heap_model.specs.declared.call.ResourceCall.TheVariants.{Attach}
-use Rattle.heap_model.specs.declared.call.Reply.TheVariants.{Number, Refused}
-use Rattle.heap_model.specs.declared.names.Db.{Db}
-use Rattle.heap_model.specs.declared.refusal.Refusal.{Refusal}
-use Rattle.laws_store.proofs.CallSteps.{refused, handed_on, changes}
-use Rattle.palm_store.specs.EntryCalls.{checks_of_attaching, LeavesAttached, LeavesChanged}
 use Rattle.palm_store.specs.declared.entries.infos.EntryInfo.TheVariants as given_as
 use Rattle.resource_db.proofs.giving.attach_resource.Goals as goal
 

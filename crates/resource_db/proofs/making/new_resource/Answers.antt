@@ -1,15 +1,6 @@
 -- A refusal of the entry is one of the call, which leaves the store as it was.
-use Rattle.std.proofs.Common.{refl, subst, inr}
-use Rattle.heap_model.specs.Refusals.{FirstBrings}
-use Rattle.heap_model.specs.Store.{store_of}
+use Rattle.resource_db.proofs.Words.{refl, subst, inr, FirstBrings, store_of, New, Refused, Db, Refusal, changes, handed_on, checks_of_making, made_reply}
 use Rattle.heap_model.specs.declared.call.Call.TheVariants as calls
-use Rattle.heap_model.specs.declared.call.ResourceCall.TheVariants.{New}
-use Rattle.heap_model.specs.declared.call.Reply.TheVariants.{Refused}
-use Rattle.heap_model.specs.declared.names.Db.{Db}
-use Rattle.heap_model.specs.declared.refusal.Refusal.{Refusal}
-use Rattle.laws_store.proofs.CallSteps.{changes, handed_on}
-use Rattle.palm_store.specs.EntryCalls.{checks_of_making}
-use Rattle.palm_store.specs.Replies.{made_reply}
 use Rattle.resource_db.proofs.making.new_resource.Goals as goal
 
 pub returns-in_err-name-clause-does : goal.returns-in_err-name-clause-does

@@ -1,19 +1,9 @@
 -- The data is resized, and then the call is counted.
-use Rattle.std.proofs.Common.{◌≡◌, ℕ, refl, sym, ap, subst, inr}
-use Rattle.laws_store.proofs.CallSteps.{refused, handed_on, changes}
+use Rattle.resource_db.proofs.Words.{◌≡◌, ℕ, refl, sym, ap, subst, inr, refused, handed_on, changes, Memory, NoneHolds, FirstBrings, store_of, DoesInStore, Refusal, data_of_entry, data_under, LeavesStore, Resize, Done, Refused, checks_of_data_growth, data_sized}
 use Rattle.heap_model.specs.Chunk.{need}
-use Rattle.heap_model.specs.Memory.{Memory}
 use Rattle.heap_model.specs.Space.{FitsInPlace, MovesOneStretchAnd}
-use Rattle.heap_model.specs.Refusals.{NoneHolds, FirstBrings}
-use Rattle.heap_model.specs.Store.{store_of}
-use Rattle.heap_model.specs.StoreSteps.{DoesInStore}
 use Rattle.heap_model.specs.declared.call.Call.TheVariants as calls
-use Rattle.heap_model.specs.declared.refusal.Refusal.{Refusal}
-use Rattle.heap_model.specs.EntrySteps.{data_of_entry, data_under, LeavesStore}
-use Rattle.heap_model.specs.declared.call.ResourceCall.TheVariants.{Resize}
-use Rattle.heap_model.specs.declared.call.Reply.TheVariants.{Done, Refused}
 use Rattle.laws_heap.proofs.Unmoved.{itself_alone}
-use Rattle.palm_store.specs.EntryCalls.{checks_of_data_growth, data_sized}
 use Rattle.palm_store.proofs.Rests.{slides_then, none_slid}
 use Rattle.palm_store.proofs.TwoChanges.{raised_after, nothing_moved, one_stretch_moved}
 use Rattle.resource_db.proofs.making.resize_resource.Goals as goal

@@ -1,10 +1,5 @@
 -- The entry of a resource database is a resource, and has data.
-use Rattle.std.proofs.Common.{sym, ap, subst, ◌∙◌}
-use Rattle.std.specs.Prelude.{is_some}
-use Rattle.heap_model.specs.Store.{store_of}
-use Rattle.heap_model.specs.EntrySteps.{entry_under}
-use Rattle.palm_store.specs.Checks.{IsTold}
-use Rattle.palm_store.proofs.OpenedEntries.{resources_told, as_resource_told}
+use Rattle.resource_db.proofs.Words.{sym, ap, subst, ◌∙◌, is_some, store_of, entry_under, IsTold, resources_told, as_resource_told}
 use Rattle.resource_db.proofs.Entries.{info_is, has_data}
 use Rattle.resource_db.proofs.resources.resource_at.Goals as goal
 

@@ -1,8 +1,6 @@
-use Rattle.std.proofs.Common.{ℕ, ◌+◌, sym, ap, ◌∙◌, arith}
+use Rattle.resource_db.proofs.Words.{ℕ, ◌+◌, sym, ap, ◌∙◌, arith, has_type, counted_more, counted_same}
 use Rattle.std.proofs.lemmas.Bool.{eq-eqb, ne_eqb}
-use Rattle.heap_model.specs.ResourceSteps.{has_type}
 use Rattle.db_format.specs.Entries.{resource_of}
-use Rattle.palm_store.proofs.SearchLaws.{counted_more, counted_same}
 use Rattle.resource_db.proofs.search.nth_of_type.Goals as goal
 use Rattle.resource_db.proofs.search.nth_of_type.Goals.{then-resource-kind+else-passed-nth, else-resource-kind}
 

@@ -1,10 +1,4 @@
-use Rattle.std.proofs.Common.{ℕ, List, sym, ap, ◌∙◌}
-use Rattle.std.proofs.lemmas.Bool.{both_ways}
-use Rattle.heap_model.specs.Database.{database_in}
-use Rattle.heap_model.specs.DatabaseSteps.{info_block}
-use Rattle.palm_store.proofs.EntriesHere.{attributes_in_store}
-use Rattle.palm_store.proofs.InfoBlocks.{block_here}
-use Rattle.palm_store.proofs.BlockCalls.{may_be_written, may_not_be_written}
+use Rattle.palm_store.proofs.Laws.{ℕ, List, sym, ap, ◌∙◌, both_ways, database_in, info_block, attributes_in_store, block_here, may_be_written, may_not_be_written}
 use Rattle.palm_store.proofs.databases.blocks.find_writable_block.Goals as goal
 
 pub returns-then-is_read_only-clause-refused : goal.returns-then-is_read_only-clause-refused

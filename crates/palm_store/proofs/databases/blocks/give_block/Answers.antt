@@ -1,9 +1,5 @@
 -- The header names the chunk first, and then that is given to the database.
-use Rattle.std.proofs.Common.{rules}
-use Rattle.palm_store.proofs.EntriesHere.{opened_here}
-use Rattle.palm_store.proofs.GivenData.{given, given_kept, given_movable, given_no_directory, written_then_owned, owned_none}
-use Rattle.palm_store.proofs.InfoBlocks.{set_block_steps}
-use Rattle.laws_heap.proofs.KeptLoans.{keeps_then}
+use Rattle.palm_store.proofs.Laws.{rules, keeps_then, opened_here, given, given_kept, given_movable, given_no_directory, written_then_owned, owned_none, set_block_steps}
 use Rattle.palm_store.proofs.databases.blocks.give_block.Goals as goal
 
 pub write_block-requires : goal.write_block-requires

@@ -1,10 +1,5 @@
 -- The header names the block no more first, and then an owner gets that.
-use Rattle.std.proofs.Common.{rules}
-use Rattle.palm_store.proofs.DataChunks.{for_data}
-use Rattle.palm_store.proofs.EntriesHere.{opened_here}
-use Rattle.palm_store.proofs.GivenData.{written_then_owned, owned_none}
-use Rattle.palm_store.proofs.InfoBlocks.{is_block, block_movable, block_no_directory, take_block_steps}
-use Rattle.laws_heap.proofs.KeptLoans.{keeps_then}
+use Rattle.palm_store.proofs.Laws.{rules, keeps_then, for_data, opened_here, written_then_owned, owned_none, is_block, block_movable, block_no_directory, take_block_steps}
 use Rattle.palm_store.proofs.databases.blocks.take_block.Goals as goal
 
 pub write_block-requires : goal.write_block-requires

@@ -1,13 +1,7 @@
 -- The header is as it was, so the next slot is that of the database that was given; its chunk is
 -- still there.
-use Rattle.std.proofs.Common.{◌+◌, refl, sym, subst, ◌∙◌, ◌≡◌, ◌<◌, ℕ, List, length}
-use Rattle.heap_model.specs.Database.{IsSpelled, database_in, data_in}
-use Rattle.mem_manager.proofs.StoreCalls.{stands_still}
-use Rattle.palm_store.proofs.Numbers.{number_spelled}
-use Rattle.palm_store.proofs.NamedChunks.{freed_none, freed_one, freed_next, named_at, header_held, header_owner, header_like, slot_left, slot_unlocked, slot_other}
-use Rattle.laws_heap.proofs.KeptLoans.{keeps_itself}
-use Rattle.palm_store.proofs.Loans.{managers_here}
-use Rattle.database_edits.proofs.Kept.{writes_then}
+use Rattle.palm_store.proofs.Laws.{◌+◌, refl, sym, subst, ◌∙◌, ◌≡◌, ◌<◌, ℕ, List, length, IsSpelled, database_in, data_in, stands_still, keeps_itself, writes_then, number_spelled, freed_none, freed_one, freed_next, named_at, header_held, header_owner, header_like, slot_left, slot_other, managers_here}
+use Rattle.palm_store.proofs.NamedChunks.{slot_unlocked}
 use Rattle.palm_store.proofs.databases.clearing.free_data.Goals as goal
 
 pub loop-index-init : goal.loop-index-init

@@ -1,11 +1,5 @@
 -- The chunks of the slots that were passed are freed, and nothing else has changed.
-use Rattle.std.proofs.Common.{take}
-use Rattle.heap_model.specs.Leaving.{Leaves}
-use Rattle.database_edits.specs.Kept.{OnlyWrites}
-use Rattle.heap_model.specs.Reading.{held}
-use Rattle.heap_model.specs.StoreWords.{all_gone}
-use Rattle.mem_manager.specs.Lookup.{StandsAs}
-use Rattle.palm_store.specs.Databases.{named_under}
+use Rattle.palm_store.proofs.Words.{take, Leaves, OnlyWrites, held, all_gone, StandsAs, named_under}
 use Rattle.palm_store.proofs.databases.clearing.free_data.Given as goal
 
 abbrev pub invariant-loop-index : goal.invariant-loop-index

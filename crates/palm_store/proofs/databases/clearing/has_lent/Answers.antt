@@ -1,11 +1,6 @@
 -- The slots of a database are asked in turn. If nothing is lent, none is asked.
-use Rattle.std.proofs.Common.{◌≡◌, refl, sym, ap, subst, ◌∙◌, arith, ℕ, List, length, false, below_more}
-use Rattle.std.proofs.lemmas.Bool.{both_ways}
-use Rattle.heap_model.specs.Database.{database_in, data_in}
-use Rattle.heap_model.specs.Lending.{IsLent}
-use Rattle.palm_store.specs.Databases.{named_under}
-use Rattle.palm_store.proofs.Loans.{none_lent}
-use Rattle.palm_store.proofs.NamedChunks.{named_at, slot_movable, any_at, none_of}
+use Rattle.palm_store.proofs.Laws.{◌≡◌, refl, sym, ap, subst, ◌∙◌, arith, ℕ, List, length, false, below_more, both_ways, database_in, data_in, IsLent, named_under, none_lent, named_at, any_at, none_of}
+use Rattle.palm_store.proofs.NamedChunks.{slot_movable}
 use Rattle.palm_store.proofs.databases.clearing.has_lent.Goals as goal
 
 pub returns-then-is_whole : goal.returns-then-is_whole

@@ -1,11 +1,5 @@
 -- A slot that a database has is that of a chunk for data, which callers may name.
-use Rattle.std.proofs.Common.{refl, ap, sym, subst, ◌∙◌, arith, ℕ, List, length, Option, false, below_more}
-use Rattle.std.proofs.lemmas.Bool.{both_ways}
-use Rattle.heap_model.specs.Database.{database_in, data_in}
-use Rattle.heap_model.specs.Maps.{callers_map}
-use Rattle.heap_model.specs.Meaning.{LiveChunk}
-use Rattle.heap_model.specs.MemorySteps.{Of, IsLocked}
-use Rattle.palm_store.specs.Databases.{named_under}
+use Rattle.palm_store.proofs.Words.{refl, ap, sym, subst, ◌∙◌, arith, ℕ, List, length, Option, false, below_more, both_ways, database_in, data_in, callers_map, LiveChunk, Of, IsLocked, named_under}
 use Rattle.palm_store.proofs.NamedChunks.{named_at, slot_movable, slot_shown, any_at, none_of}
 use Rattle.palm_store.proofs.databases.clearing.has_locked.Goals as goal
 

@@ -1,8 +1,5 @@
 -- None of the slots that were passed has a locked chunk.
-use Rattle.std.proofs.Common.{ℕ, ◌<◌, get_or}
-use Rattle.heap_model.specs.Maps.{callers_map}
-use Rattle.heap_model.specs.MemorySteps.{Of, IsLocked}
-use Rattle.palm_store.specs.Databases.{named_under}
+use Rattle.palm_store.proofs.Words.{ℕ, ◌<◌, get_or, callers_map, Of, IsLocked, named_under}
 use Rattle.palm_store.proofs.databases.clearing.has_locked.Given as goal
 
 abbrev pub invariant-loop-index : goal.invariant-loop-index

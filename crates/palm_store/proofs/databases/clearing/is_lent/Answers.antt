@@ -1,9 +1,5 @@
 -- The slot 0 has no chunk, so nothing of it is lent.
-use Rattle.std.proofs.Common.{refl, ap, ◌∙◌, false}
-use Rattle.std.proofs.lemmas.Bool.{both_ways}
-use Rattle.heap_model.specs.Reading.{held}
-use Rattle.laws_heap.proofs.KeptLoans.{unheld_here}
-use Rattle.laws_heap.proofs.Meanings.{held-zero}
+use Rattle.palm_store.proofs.Words.{refl, ap, ◌∙◌, false, both_ways, held, unheld_here, held-zero}
 use Rattle.palm_store.proofs.databases.clearing.is_lent.Goals as goal
 
 pub returns-then-slot-eq0 : goal.returns-then-slot-eq0

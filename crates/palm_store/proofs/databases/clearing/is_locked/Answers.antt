@@ -1,10 +1,5 @@
-use Rattle.std.proofs.Common.{refl, ap, ◌∙◌, subst, false}
+use Rattle.palm_store.proofs.Words.{refl, ap, ◌∙◌, subst, false, both_ways, LiveChunk, Of, IsLocked, held, held-zero}
 use Rattle.std.specs.Prelude.{Option}
-use Rattle.std.proofs.lemmas.Bool.{both_ways}
-use Rattle.heap_model.specs.Meaning.{LiveChunk}
-use Rattle.heap_model.specs.MemorySteps.{Of, IsLocked}
-use Rattle.heap_model.specs.Reading.{held}
-use Rattle.laws_heap.proofs.Meanings.{held-zero}
 use Rattle.palm_store.proofs.databases.clearing.is_locked.Goals as goal
 
 pub returns-then-slot-eq0 : goal.returns-then-slot-eq0

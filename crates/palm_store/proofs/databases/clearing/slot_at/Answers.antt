@@ -1,6 +1,4 @@
-use Rattle.std.proofs.Common.{sym, ◌∙◌, ◌-◌, ◌≤◌, ◌<◌, arith}
-use Rattle.heap_model.specs.Database.{entry_count_in}
-use Rattle.palm_store.proofs.NamedChunks.{length-named, header_inside, entry_inside, first_named, second_named, later_named}
+use Rattle.palm_store.proofs.Laws.{sym, ◌∙◌, ◌-◌, ◌≤◌, ◌<◌, arith, entry_count_in, length-named, header_inside, entry_inside, first_named, second_named, later_named}
 use Rattle.palm_store.proofs.databases.clearing.slot_at.Goals as goal
 
 pub app_info-requires : goal.app_info-requires

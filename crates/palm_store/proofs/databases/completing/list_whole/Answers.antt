@@ -1,12 +1,6 @@
 -- The header's chunk is made, then the data, and then the slot is listed; or all of it is freed
 -- again.
-use Rattle.std.proofs.Common.{refl, sym, subst, ◌≤◌, ◌∙◌, List, length, ℕ, rules}
-use Rattle.palm_store.specs.WholeDatabases.{data_sizes, numbers_in}
-use Rattle.palm_store.proofs.ListedSlots.{few_bytes, made_directory, made_movable, fresh_apart}
-use Rattle.palm_store.proofs.WholeChunks.{no_rest_room, listed_whole}
-use Rattle.palm_store.proofs.ListedSlots.{made_here}
-use Rattle.palm_store.proofs.Loans.{owned_here}
-use Rattle.laws_heap.proofs.KeptLoans.{keeps_then}
+use Rattle.palm_store.proofs.Laws.{refl, sym, subst, ◌≤◌, ◌∙◌, List, length, ℕ, rules, data_sizes, numbers_in, keeps_then, few_bytes, made_directory, made_movable, fresh_apart, no_rest_room, listed_whole, made_here, owned_here}
 use Rattle.palm_store.proofs.databases.completing.list_whole.Goals as goal
 
 pub make_data_and_list-requires-clause-few : goal.make_data_and_list-requires-clause-few

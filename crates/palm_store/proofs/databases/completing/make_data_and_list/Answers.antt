@@ -1,16 +1,6 @@
 -- The data is made and then the slot listed; or there was no room for that, and the data is freed.
-use Rattle.std.proofs.Common.{sym, subst, ◌≤◌, ◌∷◌, [], List, length, ℕ}
-use Rattle.heap_model.specs.Memory.{Memory}
-use Rattle.heap_model.specs.Leaving.{Leaves}
-use Rattle.heap_model.specs.Reading.{held}
-use Rattle.heap_model.specs.StoreWords.{all_gone}
-use Rattle.laws_heap.proofs.Results.{on_err}
-use Rattle.heap_model.specs.FileSteps.{makings, listing_part, listing_slots}
-use Rattle.palm_store.specs.WholeDatabases.{data_sizes, numbers_in, AreOwnChunks}
-use Rattle.palm_store.proofs.GainedChunks.{own_chunks, taken_back}
+use Rattle.palm_store.proofs.Laws.{sym, subst, ◌≤◌, ◌∷◌, [], List, length, ℕ, Memory, Leaves, held, all_gone, on_err, makings, listing_part, listing_slots, data_sizes, numbers_in, AreOwnChunks, slides_then, none_slid, own_chunks, taken_back, keeps_makes, same_bytes, no_listing_then}
 use Rattle.palm_store.proofs.WholeRooms.{runs_more}
-use Rattle.palm_store.proofs.WholeChunks.{keeps_makes, same_bytes, no_listing_then}
-use Rattle.database_edits.proofs.Kept.{slides_then, none_slid}
 use Rattle.palm_store.proofs.databases.completing.make_data_and_list.Goals as goal
 
 pub returns-in_err-make_data-clause-no_room : goal.returns-in_err-make_data-clause-no_room

@@ -1,14 +1,5 @@
 -- Each entry is written after those before it.
-use Rattle.std.proofs.Common.{refl, sym, ◌∙◌, ◌+◌, arith}
-use Rattle.std.proofs.lemmas.List.{get_or-map, length-map}
-use Rattle.heap_model.specs.declared.names.Name.{Name}
-use Rattle.db_format.specs.EitherEntry.{entry_of}
-use Rattle.laws_store.proofs.CallSteps.{kept_then}
-use Rattle.palm_store.specs.WholeDatabases.{numbers_in}
-use Rattle.palm_store.proofs.WholeBytes.{writes_none, entry_at, writes_inside, writes_more, writes_all, writes_fits}
-use Rattle.laws_heap.proofs.KeptLoans.{keeps_itself, keeps_then}
-use Rattle.palm_store.proofs.WholeBytes.{body_now}
-use Rattle.palm_store.proofs.Loans.{managers_here}
+use Rattle.palm_store.proofs.Laws.{refl, sym, ◌∙◌, ◌+◌, arith, get_or-map, length-map, Name, entry_of, kept_then, numbers_in, keeps_itself, keeps_then, writes_none, entry_at, writes_inside, writes_more, writes_all, writes_fits, body_now, managers_here}
 use Rattle.palm_store.proofs.databases.completing.write_entries.Goals as goal
 
 pub loop-index-init : goal.loop-index-init

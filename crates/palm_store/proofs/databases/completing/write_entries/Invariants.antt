@@ -1,9 +1,5 @@
 -- The entries that were passed are written after the header, and nothing else has changed.
-use Rattle.palm_store.proofs.WholeBytes.{Writes}
-use Rattle.std.proofs.Common.{◌≡◌}
-use Rattle.heap_model.specs.Lending.{KeepsLoan}
-use Rattle.mem_manager.specs.Lookup.{StandsAs}
-use Rattle.palm_store.specs.WholeDatabases.{numbers_in}
+use Rattle.palm_store.proofs.Laws.{◌≡◌, KeepsLoan, StandsAs, numbers_in, Writes}
 use Rattle.palm_store.proofs.databases.completing.write_entries.Given as goal
 
 abbrev pub invariant-loop-index : goal.invariant-loop-index

@@ -1,16 +1,6 @@
 -- The header is written at the front, and then the entries after it.
-use Rattle.std.proofs.Common.{sym, ap, subst, ◌∙◌, ◌≡◌, ◌++◌, ℕ, List, length, drop, arith, rules}
-use Rattle.std.specs.List.{flat_map}
-use Rattle.heap_model.specs.Database.{Database, entry_bytes, header_bytes, entry_offset}
-use Rattle.heap_model.specs.Leaving.{Leaves, rewritten}
-use Rattle.heap_model.specs.Reading.{held}
-use Rattle.db_format.specs.Headers.{IsHeaderOf}
-use Rattle.laws_store.proofs.Spellings.{length-header_bytes}
-use Rattle.database_edits.proofs.Chunks.{is_movable}
-use Rattle.laws_heap.proofs.KeptLoans.{keeps_then}
-use Rattle.palm_store.specs.WholeDatabases.{numbers_in, entries_named, whole_database}
-use Rattle.palm_store.proofs.WholeBytes.{length-named, puts_front, start_room, then_rebodied, whole_header, whole_spelled, whole_fits}
-use Rattle.palm_store.proofs.Loans.{managers_here}
+use Rattle.palm_store.proofs.Laws.{sym, ap, subst, ◌∙◌, ◌≡◌, ◌++◌, ℕ, List, length, drop, arith, rules, flat_map, Database, entry_bytes, header_bytes, entry_offset, Leaves, rewritten, held, IsHeaderOf, length-header_bytes, is_movable, keeps_then, numbers_in, entries_named, whole_database, puts_front, start_room, then_rebodied, whole_header, whole_spelled, whole_fits, managers_here}
+use Rattle.palm_store.proofs.WholeBytes.{length-named}
 use Rattle.palm_store.proofs.databases.completing.write_whole.Goals as goal
 
 pub sys_find-chunk-requires : goal.sys_find-chunk-requires

@@ -1,12 +1,5 @@
 -- The directory that was made has four bytes, over which the slot's are written.
-use Rattle.std.proofs.Common.{refl, ap, ◌∙◌, arith, ℕ, length, replicate, ◌≡◌, rules}
-use Rattle.std.proofs.lemmas.List.{length-replicate}
-use Rattle.heap_model.specs.Bytes.{overwritten}
-use Rattle.laws_heap.proofs.Frames.{length-u32_bytes}
-use Rattle.palm_store.proofs.ListedSlots.{made_here, put_here, begun, chunk_of, loose_movable}
-use Rattle.palm_store.proofs.Maps.{bytes_held, owner_held}
-use Rattle.palm_store.proofs.Loans.{owned_here}
-use Rattle.laws_heap.proofs.KeptLoans.{keeps_then}
+use Rattle.palm_store.proofs.Laws.{refl, ap, ◌∙◌, arith, ℕ, length, replicate, ◌≡◌, rules, length-replicate, overwritten, length-u32_bytes, keeps_then, made_here, put_here, begun, chunk_of, loose_movable, bytes_held, owner_held, owned_here}
 use Rattle.palm_store.proofs.databases.creating.begin_directory.Goals as goal
 
 pub sys_find-chunk-requires : goal.sys_find-chunk-requires

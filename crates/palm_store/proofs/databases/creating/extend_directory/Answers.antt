@@ -1,16 +1,6 @@
 -- The directory has no lock, so that only lack of room keeps it from growing; the slot's bytes are
 -- written over the last four.
-use Rattle.std.proofs.Common.{refl, ap, arith, ◌≡◌, ◌+◌, length, rules}
-use Rattle.heap_model.specs.Chunk.{need}
-use Rattle.heap_model.specs.Heap.{directory_of}
-use Rattle.heap_model.specs.Space.{ShortFor}
-use Rattle.heap_model.specs.Store.{directory_bytes}
-use Rattle.heap_model.specs.declared.refusal.Refusal.TheVariants.{NotEnoughSpace}
-use Rattle.laws_store.proofs.NewDatabases.{managers_loose}
-use Rattle.laws_heap.proofs.Results.{if_err, on_err}
-use Rattle.palm_store.proofs.ListedSlots.{the_directory, directory_owned, directory_loose, loose_movable, directory_few, directory_short, grown_room, growth_short, sized_here, extended}
-use Rattle.palm_store.proofs.Loans.{managers_here, owned_here}
-use Rattle.laws_heap.proofs.KeptLoans.{keeps_then}
+use Rattle.palm_store.proofs.Laws.{refl, ap, arith, ◌≡◌, ◌+◌, length, rules, need, directory_of, ShortFor, directory_bytes, NotEnoughSpace, managers_loose, if_err, on_err, keeps_then, the_directory, directory_owned, directory_loose, loose_movable, directory_few, directory_short, grown_room, growth_short, sized_here, extended, managers_here, owned_here}
 use Rattle.palm_store.proofs.databases.creating.extend_directory.Goals as goal
 
 pub sys_find-chunk-requires : goal.sys_find-chunk-requires

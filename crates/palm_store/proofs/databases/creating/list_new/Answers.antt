@@ -1,16 +1,5 @@
 -- A header's chunk is made, and then listed; or freed again, and then all is held that was held.
-use Rattle.std.proofs.Common.{refl, sym, subst, ℕ, List, length, ◌≤◌, ◌≢◌, rules}
-use Rattle.heap_model.specs.Memory.{Memory}
-use Rattle.heap_model.specs.Heap.{directory_of}
-use Rattle.heap_model.specs.Maps.{gone}
-use Rattle.heap_model.specs.Leaving.{Leaves}
-use Rattle.heap_model.specs.Reading.{held}
-use Rattle.mem_manager.specs.Lookup.{IsMovable}
-use Rattle.palm_store.proofs.ListedSlots.{made_movable, listed_new, made_directory, few_bytes, given_back, no_listing, fresh_apart}
-use Rattle.mem_manager.specs.Lookup.{IsHere}
-use Rattle.palm_store.proofs.ListedSlots.{made_here}
-use Rattle.palm_store.proofs.Loans.{owned_here}
-use Rattle.laws_heap.proofs.KeptLoans.{keeps_then}
+use Rattle.palm_store.proofs.Laws.{refl, sym, subst, ℕ, List, length, ◌≤◌, ◌≢◌, rules, Memory, directory_of, gone, Leaves, held, IsMovable, IsHere, keeps_then, made_movable, listed_new, made_directory, few_bytes, given_back, no_listing, fresh_apart, made_here, owned_here}
 use Rattle.palm_store.proofs.databases.creating.list_new.Goals as goal
 
 pub list_last-requires-clause-few : goal.list_last-requires-clause-few

@@ -1,18 +1,6 @@
 -- The directory has no lock, and a chunk without one is never refused to shrink.
-use Rattle.std.proofs.Common.{refl, ap, subst, ◌∙◌, ◌≡◌, ◌+◌, ◌-◌, ◌*◌, arith, ℕ, length, Result, rules}
-use Rattle.std.specs.Prelude.{OnOk}
-use Rattle.heap_model.specs.Leaving.{Leaves}
-use Rattle.heap_model.specs.Maps.{sized}
-use Rattle.heap_model.specs.MemorySteps.{growth_checks}
-use Rattle.heap_model.specs.Reading.{held}
-use Rattle.heap_model.specs.Refusals.{FirstBrings}
-use Rattle.heap_model.specs.declared.refusal.Refusal.{Refusal}
-use Rattle.heap_model.specs.Store.{bytes_under}
-use Rattle.palm_store.proofs.ListedSlots.{the_directory, directory_owned, directory_loose}
+use Rattle.palm_store.proofs.Laws.{refl, ap, subst, ◌∙◌, ◌≡◌, ◌+◌, ◌-◌, ◌*◌, arith, ℕ, length, Result, rules, OnOk, Leaves, sized, growth_checks, held, FirstBrings, Refusal, bytes_under, keeps_then, the_directory, directory_owned, directory_loose, owner_held, managers_here}
 use Rattle.palm_store.proofs.UnlistedSlots.{never_refused, shrinks, unlisted, directory_slid, directory_long}
-use Rattle.palm_store.proofs.Maps.{owner_held}
-use Rattle.palm_store.proofs.Loans.{managers_here}
-use Rattle.laws_heap.proofs.KeptLoans.{keeps_then}
 use Rattle.palm_store.proofs.databases.deleting.unlist.Goals as goal
 
 pub sys_find-chunk-requires : goal.sys_find-chunk-requires

@@ -1,8 +1,5 @@
 -- The next name is that of a chunk that is still there, since no name stands in the list twice.
-use Rattle.std.proofs.Common.{refl}
-use Rattle.palm_store.specs.WholeDatabases.{numbers_in}
-use Rattle.palm_store.proofs.GainedChunks.{number_at, own_movable, own_unlocked, own_beside, freed_upto}
-use Rattle.database_edits.proofs.Kept.{writes_then}
+use Rattle.palm_store.proofs.Laws.{refl, numbers_in, writes_then, number_at, own_movable, own_unlocked, own_beside, freed_upto}
 use Rattle.palm_store.proofs.databases.gaining.free_named.Goals as goal
 
 pub free_chunk_of-requires-clause-movable : goal.free_chunk_of-requires-clause-movable

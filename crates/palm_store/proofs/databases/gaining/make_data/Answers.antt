@@ -1,14 +1,5 @@
 -- One chunk more was made; or there was no room for it, and those before it are freed.
-use Rattle.std.proofs.Common.{sym, subst, ◌∙◌, arith, List, take, ℕ}
-use Rattle.std.proofs.lemmas.List.{length-map, length-set, take-map}
-use Rattle.heap_model.specs.Memory.{Memory}
-use Rattle.heap_model.specs.Leaving.{Leaves}
-use Rattle.heap_model.specs.Reading.{held}
-use Rattle.heap_model.specs.StoreWords.{all_gone}
-use Rattle.heap_model.specs.declared.names.Name.{Name}
-use Rattle.palm_store.specs.WholeDatabases.{size_of_data, data_sizes, numbers_in, AreOwnChunks}
-use Rattle.palm_store.proofs.GainedChunks.{IsSizeAt, own_chunks, taken_back, makes_more, runs_at}
-use Rattle.database_edits.proofs.Kept.{slides_then, none_slid}
+use Rattle.palm_store.proofs.Laws.{sym, subst, ◌∙◌, arith, List, take, ℕ, length-map, length-set, take-map, Memory, Leaves, held, all_gone, Name, size_of_data, data_sizes, numbers_in, AreOwnChunks, slides_then, none_slid, IsSizeAt, own_chunks, taken_back, makes_more, runs_at}
 use Rattle.palm_store.proofs.databases.gaining.make_data.Goals as goal
 
 pub free_named-requires-clause-own : goal.free_named-requires-clause-own

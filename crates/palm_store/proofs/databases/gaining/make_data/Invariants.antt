@@ -1,7 +1,5 @@
 -- The chunks of the sizes that were passed are made, and their names put down.
-use Rattle.std.proofs.Common.{◌≡◌, length, take}
-use Rattle.database_edits.specs.Kept.{OnlySlides}
-use Rattle.palm_store.specs.WholeDatabases.{data_sizes, numbers_in, MakesAll}
+use Rattle.palm_store.proofs.Words.{◌≡◌, length, take, OnlySlides, data_sizes, numbers_in, MakesAll}
 use Rattle.palm_store.proofs.databases.gaining.make_data.Given as goal
 
 abbrev pub invariant-loop-index : goal.invariant-loop-index

@@ -1,12 +1,5 @@
 -- A new record gets a fresh ID, which is known to be free no more.
-use Rattle.std.proofs.Common.{◌∙◌, arith, sym, ap, subst, rules}
-use Rattle.heap_model.specs.Store.{store_of}
-use Rattle.heap_model.specs.Database.{a_record}
-use Rattle.palm_store.specs.EntryInfos.{NewEntry, makes_resource, IsMadeOf}
-use Rattle.palm_store.proofs.EntriesHere.{count_here, records_here}
-use Rattle.palm_store.proofs.NewEntries.{record_made}
-use Rattle.heap_model.specs.Lists.{times}
-use Rattle.palm_store.proofs.KnownIds.{ids_here, left_beside, resource_beside}
+use Rattle.palm_store.proofs.Laws.{◌∙◌, arith, sym, ap, subst, rules, store_of, a_record, NewEntry, makes_resource, IsMadeOf, times, count_here, records_here, record_made, ids_here, left_beside, resource_beside}
 use Rattle.palm_store.proofs.entries.making.new_entry.Goals as goal
 
 pub free_ids-free-requires-clause-records : goal.free_ids-free-requires-clause-records

@@ -1,26 +1,8 @@
 -- The header spells what it spelled while the chunk is made; where it can't grow, the chunk is
 -- freed again.
-use Rattle.std.proofs.Common.{◌≡◌, ◌≤◌, ◌<◌, ◌≢◌, ◌∙◌, Some, replicate, refl, sym, ap, subst, ℕ, List, length, rules}
-use Rattle.heap_model.specs.Memory.{Memory}
-use Rattle.heap_model.specs.Heap.{directory_of}
-use Rattle.heap_model.specs.Reading.{held}
-use Rattle.heap_model.specs.Maps.{gone}
-use Rattle.heap_model.specs.Leaving.{Leaves}
-use Rattle.heap_model.specs.Database.{Entry, Database, entry_with, has_resources}
-use Rattle.db_format.specs.EitherEntry.{entry_of}
-use Rattle.laws_store.proofs.Numbered.{accepted_spells, entries_here, kind_here}
-use Rattle.laws_heap.proofs.KeptLoans.{keeps_then}
-use Rattle.mem_manager.specs.Lookup.{IsMovable}
-use Rattle.heap_model.specs.EntrySteps.{most_entries}
-use Rattle.database_edits.proofs.Chunks.{is_movable}
+use Rattle.palm_store.proofs.Laws.{◌≡◌, ◌≤◌, ◌<◌, ◌≢◌, ◌∙◌, Some, replicate, refl, sym, ap, subst, ℕ, List, length, rules, Memory, directory_of, held, gone, Leaves, Entry, Database, entry_with, has_resources, entry_of, accepted_spells, entries_here, kind_here, keeps_then, IsMovable, most_entries, is_movable, data_owner, HeapAccepted, made_movable, index_most, opened_here, spells_still, database_still, made_no_directory, puts_in, no_header_room, made_chunk, loose_here}
 use Rattle.database_edits.proofs.Databases.{managers}
-use Rattle.palm_store.proofs.ListedSlots.{made_movable}
-use Rattle.palm_store.proofs.EntriesHere.{index_most, opened_here}
-use Rattle.palm_store.proofs.NewEntries.{spells_still, database_still, made_no_directory, puts_in, no_header_room, given_back}
-use Rattle.heap_model.specs.Chunk.{data_owner}
-use Rattle.heap_model.specs.Heap.{HeapAccepted}
-use Rattle.palm_store.proofs.ListedSlots.{made_chunk}
-use Rattle.palm_store.proofs.Loans.{loose_here}
+use Rattle.palm_store.proofs.NewEntries.{given_back}
 use Rattle.palm_store.proofs.entries.making.put_in.Goals as goal
 
 pub sys_find-requires : goal.sys_find-requires

@@ -1,13 +1,5 @@
 -- The header spells the entry first, and then the chunk is given to the database.
-use Rattle.std.proofs.Common.{◌<◌, ◌∙◌, subst, List, length, rules}
-use Rattle.heap_model.specs.Database.{Entry, entry_with}
-use Rattle.db_format.specs.EitherEntry.{entry_of}
-use Rattle.laws_heap.proofs.Results.{on_err}
-use Rattle.laws_store.proofs.Numbered.{accepted_spells, entries_here, kind_here}
-use Rattle.heap_model.specs.EntrySteps.{most_entries}
-use Rattle.laws_heap.proofs.KeptLoans.{keeps_then}
-use Rattle.palm_store.proofs.EntriesHere.{index_most, opened_here}
-use Rattle.palm_store.proofs.GivenData.{given, given_kept, given_movable, given_no_directory, takes_in, takes_none, no_room_to_take}
+use Rattle.palm_store.proofs.Laws.{◌<◌, ◌∙◌, subst, List, length, rules, Entry, entry_with, entry_of, on_err, accepted_spells, entries_here, kind_here, most_entries, keeps_then, index_most, opened_here, given, given_kept, given_movable, given_no_directory, takes_in, takes_none, no_room_to_take}
 use Rattle.palm_store.proofs.entries.making.take_in.Goals as goal
 
 pub insert_entry-requires-clause-opened : goal.insert_entry-requires-clause-opened

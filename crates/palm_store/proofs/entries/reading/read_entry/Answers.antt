@@ -1,5 +1,4 @@
-use Rattle.std.proofs.Common.{arith}
-use Rattle.db_format.specs.EitherEntry.{entry_of}
+use Rattle.palm_store.proofs.Words.{arith, entry_of}
 use Rattle.palm_store.proofs.EntriesHere.{count_fits, header_inside, entry_inside, read_is, kind_is, fits_at}
 use Rattle.palm_store.proofs.entries.reading.read_entry.Goals as goal
 

@@ -1,6 +1,5 @@
+use Rattle.palm_store.proofs.Laws.{no_directory, directory_movable, directory_read, counts, directory_here}
 use Rattle.std.proofs.Common.{[], sym, ◌∙◌}
-use Rattle.palm_store.proofs.Numbers.{no_directory, directory_movable, directory_read, counts}
-use Rattle.palm_store.proofs.Loans.{directory_here}
 use Rattle.palm_store.proofs.lookup.directory.directory_bytes.Goals as goal
 
 pub sys_body-requires-clause-here : goal.sys_body-requires-clause-here

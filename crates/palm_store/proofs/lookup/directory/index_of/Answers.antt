@@ -1,6 +1,4 @@
-use Rattle.std.proofs.Common.{◌≡◌, ◌≢◌, ◌*◌, ℕ, ap, ◌∙◌, arith, rules}
-use Rattle.heap_model.specs.Bytes.{u32_at}
-use Rattle.palm_store.proofs.Numbers.{slot_in, slot_read, listed_at}
+use Rattle.palm_store.proofs.Laws.{◌≡◌, ◌≢◌, ◌*◌, ℕ, ap, ◌∙◌, arith, rules, u32_at, slot_in, slot_read, listed_at}
 use Rattle.palm_store.proofs.lookup.directory.index_of.Goals as goal
 
 pub loop-directory-init : goal.loop-directory-init

@@ -1,6 +1,5 @@
 -- The number is listed at the index or after it.
-use Rattle.std.proofs.Common.{◌-◌, ◌/◌, ◌≤◌, ℕ, length}
-use Rattle.palm_store.specs.Databases.{IsListedAt}
+use Rattle.palm_store.proofs.Words.{◌-◌, ◌/◌, ◌≤◌, ℕ, length, IsListedAt}
 use Rattle.palm_store.proofs.lookup.directory.index_of.Given as goal
 
 abbrev pub invariant-loop-directory : goal.invariant-loop-directory

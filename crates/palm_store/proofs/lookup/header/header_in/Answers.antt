@@ -1,5 +1,4 @@
-use Rattle.palm_store.proofs.Numbers.{number_spelled, number_shape}
-use Rattle.palm_store.proofs.Loans.{number_here}
+use Rattle.palm_store.proofs.Laws.{number_spelled, number_shape, number_here}
 use Rattle.palm_store.proofs.lookup.header.header_in.Goals as goal
 
 pub returns-clause-spelled : goal.returns-clause-spelled

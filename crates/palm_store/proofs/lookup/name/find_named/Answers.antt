@@ -1,6 +1,4 @@
-use Rattle.std.proofs.Common.{◌≢◌, ℕ, List, sym, ap, ◌∙◌, arith, rules}
-use Rattle.palm_store.specs.Databases.{name_under}
-use Rattle.palm_store.proofs.Numbers.{number_in, slot_read}
+use Rattle.palm_store.proofs.Laws.{◌≢◌, ℕ, List, sym, ap, ◌∙◌, arith, rules, name_under, number_in, slot_read}
 use Rattle.palm_store.proofs.Lookups.{not_taken}
 use Rattle.palm_store.proofs.lookup.name.find_named.Goals as goal
 

@@ -1,7 +1,5 @@
 -- None of the databases that were passed is another one with the name.
-use Rattle.std.proofs.Common.{◌≡◌, ◌≢◌, ◌*◌, ◌<◌, ℕ}
-use Rattle.heap_model.specs.Bytes.{u32_at}
-use Rattle.palm_store.specs.Databases.{name_under}
+use Rattle.palm_store.proofs.Words.{◌≡◌, ◌≢◌, ◌*◌, ◌<◌, ℕ, u32_at, name_under}
 use Rattle.palm_store.proofs.lookup.name.find_named.Given as goal
 
 abbrev pub invariant-loop-index : goal.invariant-loop-index

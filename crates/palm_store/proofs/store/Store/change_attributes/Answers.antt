@@ -1,13 +1,6 @@
 -- Only the attributes of the records change.
-use Rattle.std.proofs.Common.{◌≡◌, false}
-use Rattle.heap_model.specs.Store.{store_of}
-use Rattle.heap_model.specs.EntrySteps.{resources_under}
-use Rattle.palm_store.specs.Opened.{IsOpened}
-use Rattle.palm_store.proofs.EntriesHere.{opened_here}
-use Rattle.palm_store.proofs.EntryChanges.{respelled_none}
+use Rattle.palm_store.proofs.Laws.{◌≡◌, false, store_of, resources_under, IsOpened, opened_here, respelled_none, attributes_free, open_with_attributes}
 use Rattle.palm_store.proofs.AttributeChanges.{attributes_steps, kind_of_records}
-use Rattle.palm_store.proofs.KnownIds.{attributes_free}
-use Rattle.palm_store.proofs.StillOpen.{open_with_attributes}
 use Rattle.palm_store.proofs.store.Store.change_attributes.Goals as goal
 
 pub change_attributes-requires-clause-opened : goal.change_attributes-requires-clause-opened

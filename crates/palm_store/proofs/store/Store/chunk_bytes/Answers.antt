@@ -1,6 +1,4 @@
-use Rattle.std.proofs.Common.{◌∙◌}
-use Rattle.palm_store.specs.Files.{IsDataName}
-use Rattle.palm_store.proofs.FilledData.{none_seen, data_seen, lent_movable}
+use Rattle.palm_store.proofs.Laws.{◌∙◌, IsDataName, none_seen, data_seen, lent_movable}
 use Rattle.palm_store.proofs.store.Store.chunk_bytes.Goals as goal
 
 pub sys_body-requires-clause-movable : goal.sys_body-requires-clause-movable

@@ -1,5 +1,4 @@
-use Rattle.palm_store.proofs.MemoryCalls.{ask_viewed}
-use Rattle.palm_store.proofs.Lookups.{counted}
+use Rattle.palm_store.proofs.Laws.{ask_viewed, counted}
 use Rattle.palm_store.proofs.store.Store.count.Goals as goal
 
 pub returns : goal.returns

@@ -1,9 +1,5 @@
 -- The database counts the call, and nothing else changes.
-use Rattle.palm_store.proofs.EntriesHere.{opened_here}
-use Rattle.palm_store.proofs.EntryChanges.{counting_steps, respelled_none}
-use Rattle.palm_store.specs.Opened.{IsOpened}
-use Rattle.heap_model.specs.Store.{store_of}
-use Rattle.palm_store.proofs.KnownIds.{raised_free}
+use Rattle.palm_store.proofs.Laws.{IsOpened, store_of, opened_here, counting_steps, respelled_none, raised_free}
 use Rattle.palm_store.proofs.store.Store.count_change.Goals as goal
 
 pub count_change-requires : goal.count_change-requires

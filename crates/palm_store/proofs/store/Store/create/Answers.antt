@@ -1,25 +1,8 @@
 -- What was found of the name and of the databases lets the call go on; the header is written into
 -- the chunk that was listed, or all is as before.
-use Rattle.std.proofs.Common.{refl, ap, sym, subst, ◌∙◌, ◌≡◌, ◌<◌, ◌≤◌, arith, ℕ, List, length, replicate}
-use Rattle.std.proofs.lemmas.List.{length-replicate}
-use Rattle.heap_model.specs.DatabaseFields.{header_size}
-use Rattle.heap_model.specs.Database.{Database, IsDatabaseName, DatabaseFits, header_bytes, spelled}
-use Rattle.heap_model.specs.Store.{listed, most_databases, store_of}
-use Rattle.heap_model.specs.DatabaseSteps.{IsTaken, empty_database}
-use Rattle.heap_model.specs.declared.call.DatabaseCall.TheVariants.{Create}
+use Rattle.palm_store.proofs.Laws.{refl, ap, sym, subst, ◌∙◌, ◌≡◌, ◌<◌, ◌≤◌, arith, ℕ, List, length, replicate, length-replicate, header_size, Database, IsDatabaseName, DatabaseFits, header_bytes, spelled, listed, most_databases, store_of, IsTaken, empty_database, Create, handed_on, length-header_bytes, ListsNew, keeps_then, bytes_held, chunk_of, loose_movable, not_taken, not_named, name_taken, too_many, header_put, created, not_created, empty_fits, header_spells, viewed, ask_viewed, nothing_known, then_written, owned_here}
 use Rattle.heap_model.specs.declared.call.Call.TheVariants as calls
 use Rattle.heap_model.specs.declared.call.Reply.TheVariants as replies
-use Rattle.laws_store.proofs.CallSteps.{handed_on}
-use Rattle.laws_store.proofs.Spellings.{length-header_bytes}
-use Rattle.palm_store.specs.Directory.{ListsNew}
-use Rattle.palm_store.proofs.Maps.{bytes_held}
-use Rattle.palm_store.proofs.ListedSlots.{chunk_of, loose_movable}
-use Rattle.palm_store.proofs.Creation.{not_taken, not_named, name_taken, too_many, header_put, created, not_created, empty_fits, header_spells}
-use Rattle.palm_store.proofs.MemoryCalls.{viewed, ask_viewed}
-use Rattle.palm_store.proofs.KnownIds.{nothing_known}
-use Rattle.laws_heap.proofs.KeptLoans.{keeps_then}
-use Rattle.palm_store.proofs.Rests.{then_written}
-use Rattle.palm_store.proofs.Loans.{owned_here}
 use Rattle.palm_store.proofs.store.Store.create.Goals as goal
 
 pub returns-in_default-clause-does : goal.returns-in_default-clause-does

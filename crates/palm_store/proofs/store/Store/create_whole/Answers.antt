@@ -1,24 +1,7 @@
 -- What was found of the name and of the databases lets the call go on; all is made and written, or
 -- all is as before.
-use Rattle.std.proofs.Common.{refl, ap, subst, ◌∙◌, ◌<◌, ◌≤◌, inl, inr, ℕ, List, length, replicate}
-use Rattle.std.proofs.lemmas.List.{length-replicate, length-map}
-use Rattle.heap_model.specs.Refusals.{FirstBrings}
-use Rattle.heap_model.specs.Database.{spelled}
-use Rattle.heap_model.specs.Store.{listed, most_databases, store_of}
-use Rattle.heap_model.specs.DatabaseSteps.{IsTaken}
-use Rattle.heap_model.specs.declared.names.Name.{Name}
-use Rattle.laws_heap.proofs.Results.{on_err, if_err}
-use Rattle.laws_store.proofs.EditedStores.{same_steps}
-use Rattle.heap_model.specs.FileSteps.{whole_parts, whole_slots}
-use Rattle.palm_store.specs.WholeDatabases.{data_sizes, numbers_in, whole_database, RunsOut, MakesWhole, checks_of_whole}
-use Rattle.palm_store.proofs.Maps.{bytes_held, owner_held}
-use Rattle.palm_store.proofs.ListedSlots.{chunk_of}
-use Rattle.palm_store.proofs.Creation.{not_taken, below_most, most_there}
-use Rattle.palm_store.proofs.NewEntries.{left_as_before}
-use Rattle.palm_store.proofs.WholeChunks.{whole_written}
+use Rattle.palm_store.proofs.Laws.{refl, ap, subst, ◌∙◌, ◌<◌, ◌≤◌, inl, inr, ℕ, List, length, replicate, length-replicate, length-map, FirstBrings, spelled, listed, most_databases, store_of, IsTaken, Name, on_err, if_err, same_steps, whole_parts, whole_slots, data_sizes, numbers_in, whole_database, RunsOut, MakesWhole, checks_of_whole, slides_then, none_slid, bytes_held, owner_held, chunk_of, not_taken, below_most, most_there, left_as_before, whole_written, nothing_known}
 use Rattle.palm_store.proofs.WholeSteps.{whole_made, few_listed, size_asked}
-use Rattle.palm_store.proofs.KnownIds.{nothing_known}
-use Rattle.database_edits.proofs.Kept.{slides_then, none_slid}
 use Rattle.palm_store.proofs.store.Store.create_whole.Goals as goal
 
 pub returns-then-count_databases-ge-MOST_DATABASES-clause-why : goal.returns-then-count_databases-ge-MOST_DATABASES-clause-why

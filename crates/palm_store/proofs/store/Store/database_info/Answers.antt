@@ -1,7 +1,4 @@
-use Rattle.std.proofs.Common.{ℕ, List, ap, ◌∙◌}
-use Rattle.heap_model.specs.Database.{database_in}
-use Rattle.heap_model.specs.DatabaseSteps.{info_of}
-use Rattle.palm_store.proofs.Lookups.{told}
+use Rattle.palm_store.proofs.Laws.{ℕ, List, ap, ◌∙◌, database_in, info_of, told}
 use Rattle.palm_store.proofs.store.Store.database_info.Goals as goal
 
 pub returns : goal.returns

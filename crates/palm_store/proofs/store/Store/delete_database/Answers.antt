@@ -1,12 +1,6 @@
 -- Where nothing is locked, all that goes is freed before the slot is taken out of the directory.
-use Rattle.std.proofs.lemmas.Bool.{both_ways}
-use Rattle.palm_store.proofs.MemoryCalls.{viewed, ask_viewed}
+use Rattle.palm_store.proofs.Laws.{both_ways, keeps_then, kept_then, viewed, ask_viewed, nothing_known, then_moved, managers_here}
 use Rattle.palm_store.proofs.Deleted.{header_other, header_left, all_freed, lists_still, deleted, not_deleted}
-use Rattle.palm_store.proofs.KnownIds.{nothing_known}
-use Rattle.laws_heap.proofs.KeptLoans.{keeps_then}
-use Rattle.laws_store.proofs.CallSteps.{kept_then}
-use Rattle.palm_store.proofs.Rests.{then_moved}
-use Rattle.palm_store.proofs.Loans.{managers_here}
 use Rattle.palm_store.proofs.store.Store.delete_database.Goals as goal
 
 pub returns-then-has_locked-clause-does : goal.returns-then-has_locked-clause-does

@@ -1,18 +1,6 @@
 -- What came is the entry that was asked for, with the chunk that was given; what was refused has
 -- changed nothing.
-use Rattle.std.proofs.Common.{◌<◌, ◌∙◌, arith, inl, inr, ℕ, List, length, ◌≤◌, ◌≡◌}
-use Rattle.heap_model.specs.EntrySteps.{most_entries, entries_in, resources_under}
-use Rattle.heap_model.specs.Store.{store_of}
-use Rattle.heap_model.specs.Refusals.{FirstBrings}
-use Rattle.db_format.specs.EitherEntry.{entry_of}
-use Rattle.heap_model.specs.Database.{Entry, entry_with}
-use Rattle.palm_store.specs.Opened.{IsOpened}
-use Rattle.palm_store.specs.declared.entries.known.KnownIds.{KnownIds}
-use Rattle.palm_store.proofs.KnownIds.{come_free, beside_named}
-use Rattle.palm_store.specs.EntryInfos.{makes_resource}
-use Rattle.palm_store.specs.EntryCalls.{MayBeGiven, checks_of_attaching}
-use Rattle.palm_store.proofs.GivenData.{attach_leaves, attach_steps}
-use Rattle.laws_heap.proofs.Results.{if_err}
+use Rattle.palm_store.proofs.Laws.{◌<◌, ◌∙◌, arith, inl, inr, ℕ, List, length, ◌≤◌, ◌≡◌, most_entries, entries_in, resources_under, store_of, FirstBrings, entry_of, Entry, entry_with, IsOpened, KnownIds, makes_resource, MayBeGiven, checks_of_attaching, if_err, come_free, beside_named, attach_leaves, attach_steps}
 use Rattle.palm_store.proofs.store.Store.entry_attach.Goals as goal
 
 pub returns-in_err-take_in-clause-why : goal.returns-in_err-take_in-clause-why

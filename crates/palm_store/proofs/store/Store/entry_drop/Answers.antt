@@ -1,20 +1,5 @@
 -- The entry is dropped, and its data is freed or gets an owner.
-use Rattle.std.proofs.Common.{◌<◌, arith, sym, subst, ℕ, List, Option, length}
-use Rattle.std.specs.Prelude.{IfSome, IfNone}
-use Rattle.heap_model.specs.Maps.{gone}
-use Rattle.heap_model.specs.Leaving.{Leaves}
-use Rattle.heap_model.specs.Reading.{held}
-use Rattle.heap_model.specs.Store.{store_of}
-use Rattle.heap_model.specs.EntrySteps.{LeavesStore, raised, data_under, entries_in}
-use Rattle.db_format.specs.EitherEntry.{entry_of}
-use Rattle.palm_store.specs.EntryInfos.{MayOwn, dropped_to}
-use Rattle.palm_store.proofs.EntriesHere.{count_fits, index_below, opened_here}
-use Rattle.palm_store.proofs.EntryChanges.{drop_steps, hand_over_steps, slot_movable, slot_unlocked, slot_no_directory, slot_some}
-use Rattle.palm_store.specs.Opened.{IsOpened}
-use Rattle.palm_store.proofs.KnownIds.{go_free}
-use Rattle.palm_store.specs.EntryCalls.{HasLockedData}
-use Rattle.database_edits.proofs.Kept.{slides_then, none_slid}
-use Rattle.database_edits.specs.Kept.{OnlyWrites}
+use Rattle.palm_store.proofs.Laws.{◌<◌, arith, sym, subst, ℕ, List, Option, length, IfSome, IfNone, gone, Leaves, held, store_of, LeavesStore, raised, data_under, entries_in, entry_of, MayOwn, dropped_to, IsOpened, HasLockedData, slides_then, none_slid, OnlyWrites, count_fits, index_below, opened_here, drop_steps, hand_over_steps, slot_movable, slot_unlocked, slot_no_directory, slot_some, go_free}
 use Rattle.palm_store.proofs.store.Store.entry_drop.Goals as goal
 
 pub overflow_cast-index : goal.overflow_cast-index

@@ -1,23 +1,6 @@
 -- The entry names no data, and then its data is freed.
-use Rattle.std.proofs.Common.{arith, refl, sym, None, ◌∙◌, subst, ℕ, List, false, length, ◌≡◌, ◌<◌}
-use Rattle.heap_model.specs.Database.{Entry}
-use Rattle.heap_model.specs.Maps.{gone}
-use Rattle.heap_model.specs.Leaving.{Leaves}
-use Rattle.heap_model.specs.Reading.{held}
-use Rattle.heap_model.specs.EntrySteps.{without_data, data_freed, resources_under, entries_in}
-use Rattle.db_format.specs.EitherEntry.{entry_of}
-use Rattle.mem_manager.proofs.StoreCalls.{stands_still}
-use Rattle.palm_store.proofs.EntriesHere.{count_fits, fits_here, index_below, opened_here}
-use Rattle.palm_store.proofs.EntryChanges.{free_steps, slot_owner, slot_movable, slot_unlocked, slot_no_directory}
+use Rattle.palm_store.proofs.Laws.{arith, refl, sym, None, ◌∙◌, subst, ℕ, List, false, length, ◌≡◌, ◌<◌, Entry, gone, Leaves, held, without_data, data_freed, resources_under, entries_in, entry_of, stands_still, store_of, IsOpened, HasLockedData, writes_then, count_fits, fits_here, index_below, opened_here, free_steps, slot_owner, slot_movable, slot_unlocked, slot_no_directory, name_apart, emptied_names, emptied_id, emptied_data, change_free, emptied_gets, open_without_data}
 use Rattle.laws_store.proofs.Edited.{apart as updated_apart}
-use Rattle.palm_store.proofs.EntryChanges.{name_apart}
-use Rattle.palm_store.proofs.EntryInfos.{emptied_names, emptied_id, emptied_data}
-use Rattle.heap_model.specs.Store.{store_of}
-use Rattle.palm_store.specs.Opened.{IsOpened}
-use Rattle.palm_store.proofs.KnownIds.{change_free, emptied_gets}
-use Rattle.palm_store.proofs.StillOpen.{open_without_data}
-use Rattle.palm_store.specs.EntryCalls.{HasLockedData}
-use Rattle.database_edits.proofs.Kept.{writes_then}
 use Rattle.palm_store.proofs.store.Store.entry_free_data.Goals as goal
 
 pub overflow_cast-index : goal.overflow_cast-index

@@ -1,11 +1,5 @@
 -- The fields are those of the entry that stands at the index.
-use Rattle.std.proofs.Common.{◌∙◌}
-use Rattle.heap_model.specs.EntrySteps.{entry_under, Tells}
-use Rattle.heap_model.specs.Store.{store_of}
-use Rattle.db_format.specs.EitherEntry.{entry_of}
-use Rattle.laws_store.proofs.Numbered.{entry_here}
-use Rattle.palm_store.specs.Opened.{IsOpened}
-use Rattle.palm_store.proofs.EntriesHere.{of_entry}
+use Rattle.palm_store.proofs.Laws.{◌∙◌, entry_under, Tells, store_of, entry_of, entry_here, IsOpened, of_entry}
 use Rattle.palm_store.proofs.store.Store.entry_in.Goals as goal
 
 pub returns : goal.returns

@@ -1,11 +1,5 @@
 -- The entries are in the new order, and nothing else changes.
-use Rattle.std.proofs.Common.{arith, ◌≤◌, length, ◌<◌}
-use Rattle.palm_store.proofs.EntriesHere.{count_fits, index_below, index_most, opened_here}
-use Rattle.palm_store.proofs.EntryChanges.{move_steps, respelled_none}
-use Rattle.heap_model.specs.Store.{store_of}
-use Rattle.heap_model.specs.EntrySteps.{entries_in}
-use Rattle.palm_store.specs.Opened.{IsOpened}
-use Rattle.palm_store.proofs.KnownIds.{move_free}
+use Rattle.palm_store.proofs.Laws.{arith, ◌≤◌, length, ◌<◌, store_of, entries_in, IsOpened, count_fits, index_below, index_most, opened_here, move_steps, respelled_none, move_free}
 use Rattle.palm_store.proofs.store.Store.entry_move.Goals as goal
 
 pub overflow_cast-from : goal.overflow_cast-from

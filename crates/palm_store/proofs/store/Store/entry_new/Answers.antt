@@ -1,18 +1,5 @@
 -- What came is the entry that was asked for; what was refused has left the store as it was.
-use Rattle.std.proofs.Common.{◌<◌, ◌∙◌, arith, inl, inr, ℕ, List, length, ◌≤◌, ◌≡◌}
-use Rattle.heap_model.specs.EntrySteps.{most_entries, entries_in, resources_under}
-use Rattle.heap_model.specs.Store.{store_of}
-use Rattle.db_format.specs.EitherEntry.{entry_of}
-use Rattle.laws_store.proofs.EditedStores.{same_steps}
-use Rattle.palm_store.proofs.NewEntries.{new_leaves, new_steps, left_as_before}
-use Rattle.laws_heap.proofs.Results.{on_err, if_err}
-use Rattle.heap_model.specs.Refusals.{FirstBrings}
-use Rattle.palm_store.specs.EntryCalls.{checks_of_making}
-use Rattle.palm_store.specs.EntryInfos.{makes_resource}
-use Rattle.heap_model.specs.Database.{Entry, entry_with}
-use Rattle.palm_store.specs.Opened.{IsOpened}
-use Rattle.palm_store.specs.declared.entries.known.KnownIds.{KnownIds}
-use Rattle.palm_store.proofs.KnownIds.{stand_still, come_free, beside_named}
+use Rattle.palm_store.proofs.Laws.{◌<◌, ◌∙◌, arith, inl, inr, ℕ, List, length, ◌≤◌, ◌≡◌, most_entries, entries_in, resources_under, store_of, entry_of, same_steps, on_err, if_err, FirstBrings, checks_of_making, makes_resource, Entry, entry_with, IsOpened, KnownIds, new_leaves, new_steps, left_as_before, stand_still, come_free, beside_named}
 use Rattle.palm_store.proofs.store.Store.entry_new.Goals as goal
 
 pub invariant_of-self : goal.invariant_of-self

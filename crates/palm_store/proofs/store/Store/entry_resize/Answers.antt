@@ -1,13 +1,6 @@
 -- The data of the entry is resized, and nothing else changes.
-use Rattle.laws_store.proofs.EditedStores.{resize_steps}
-use Rattle.laws_heap.proofs.Results.{if_err}
-use Rattle.heap_model.specs.Refusals.{FirstBrings}
-use Rattle.palm_store.specs.EntryCalls.{IsEntryData, checks_of_data_growth}
-use Rattle.palm_store.proofs.DataChunks.{for_data, data_movable}
-use Rattle.palm_store.proofs.EntryChanges.{named_owner}
+use Rattle.palm_store.proofs.Laws.{resize_steps, if_err, FirstBrings, IsEntryData, checks_of_data_growth, store_of, for_data, data_movable, named_owner, stand_still}
 use Rattle.palm_store.proofs.DataGrowth.{none_for_callers, first_for_callers, sized_steps}
-use Rattle.heap_model.specs.Store.{store_of}
-use Rattle.palm_store.proofs.KnownIds.{stand_still}
 use Rattle.palm_store.proofs.store.Store.entry_resize.Goals as goal
 
 pub sys_find-found-requires : goal.sys_find-found-requires

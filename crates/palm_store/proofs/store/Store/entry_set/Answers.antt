@@ -1,15 +1,5 @@
 -- The entry has the given fields and its old data.
-use Rattle.std.proofs.Common.{arith, refl, ◌∙◌, ℕ, List, length, ◌<◌}
-use Rattle.heap_model.specs.Database.{Entry}
-use Rattle.db_format.specs.EitherEntry.{entry_of}
-use Rattle.palm_store.specs.EntryInfos.{with_info, CanHave}
-use Rattle.palm_store.proofs.EntriesHere.{count_fits, fits_here, index_below, opened_here}
-use Rattle.palm_store.proofs.EntryChanges.{set_steps, respelled_none}
-use Rattle.palm_store.proofs.EntryInfos.{fitting_info, informed_names, informed_own, informed_data}
-use Rattle.heap_model.specs.Store.{store_of}
-use Rattle.heap_model.specs.EntrySteps.{resources_under, entries_in, entry_changed}
-use Rattle.palm_store.specs.Opened.{IsOpened}
-use Rattle.palm_store.proofs.KnownIds.{change_free}
+use Rattle.palm_store.proofs.Laws.{arith, refl, ◌∙◌, ℕ, List, length, ◌<◌, Entry, entry_of, with_info, CanHave, store_of, resources_under, entries_in, entry_changed, IsOpened, count_fits, fits_here, index_below, opened_here, set_steps, respelled_none, fitting_info, informed_names, informed_own, informed_data, change_free}
 use Rattle.palm_store.proofs.store.Store.entry_set.Goals as goal
 
 pub overflow_cast-index : goal.overflow_cast-index

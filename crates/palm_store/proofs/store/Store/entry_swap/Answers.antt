@@ -1,19 +1,5 @@
 -- The entry has the name that was given first; then the two chunks change their owners.
-use Rattle.std.proofs.Common.{◌<◌, ◌∙◌, arith, ap, refl, true, ℕ, length}
-use Rattle.heap_model.specs.Database.{entry_with}
-use Rattle.heap_model.specs.Store.{store_of}
-use Rattle.heap_model.specs.EntrySteps.{data_under, entries_in, resources_under}
-use Rattle.db_format.specs.EitherEntry.{entry_of}
-use Rattle.palm_store.specs.Opened.{IsOpened}
-use Rattle.palm_store.specs.EntryInfos.{with_info, CanHave}
-use Rattle.palm_store.specs.EntryCalls.{MayBeGiven, entry_given}
-use Rattle.palm_store.proofs.EntriesHere.{count_fits, fits_here, index_below, opened_here}
-use Rattle.palm_store.proofs.EntryChanges.{slot_movable, slot_no_directory, slot_owner, slot_some}
-use Rattle.palm_store.proofs.EntryInfos.{fitting_info, informed_own}
-use Rattle.palm_store.proofs.GivenData.{given, given_kept_then, given_movable, given_no_directory, swap_steps}
-use Rattle.palm_store.proofs.KnownIds.{change_free, named_gets}
-use Rattle.database_edits.proofs.Kept.{writes_then}
-use Rattle.database_edits.specs.Kept.{OnlyWrites}
+use Rattle.palm_store.proofs.Laws.{◌<◌, ◌∙◌, arith, ap, refl, true, ℕ, length, entry_with, store_of, data_under, entries_in, resources_under, entry_of, IsOpened, with_info, CanHave, MayBeGiven, entry_given, writes_then, OnlyWrites, count_fits, fits_here, index_below, opened_here, slot_movable, slot_no_directory, slot_owner, slot_some, fitting_info, informed_own, given, given_kept_then, given_movable, given_no_directory, swap_steps, change_free, named_gets}
 use Rattle.palm_store.proofs.store.Store.entry_swap.Goals as goal
 
 pub overflow_cast-index : goal.overflow_cast-index

@@ -1,10 +1,5 @@
 -- The data has the given bytes, and nothing else changes.
-use Rattle.std.proofs.Common.{length, arith}
-use Rattle.heap_model.specs.Store.{store_of}
-use Rattle.palm_store.specs.Files.{HasDataOf}
-use Rattle.palm_store.proofs.FilledData.{data_held, filled_movable, data_long, filled_steps}
-use Rattle.palm_store.proofs.KnownIds.{stand_still}
-use Rattle.palm_store.proofs.Loans.{loose_here}
+use Rattle.palm_store.proofs.Laws.{length, arith, store_of, HasDataOf, data_held, filled_movable, data_long, filled_steps, stand_still, loose_here}
 use Rattle.palm_store.proofs.store.Store.fill_data.Goals as goal
 
 pub sys_find-chunk-requires : goal.sys_find-chunk-requires

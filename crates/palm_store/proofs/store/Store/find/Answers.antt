@@ -1,5 +1,4 @@
-use Rattle.palm_store.proofs.MemoryCalls.{ask_viewed}
-use Rattle.palm_store.proofs.Lookups.{answered}
+use Rattle.palm_store.proofs.Laws.{ask_viewed, answered}
 use Rattle.palm_store.proofs.store.Store.find.Goals as goal
 
 pub returns : goal.returns

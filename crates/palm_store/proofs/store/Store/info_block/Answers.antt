@@ -1,10 +1,4 @@
-use Rattle.std.proofs.Common.{◌≡◌, ℕ, List, sym, ap, ◌∙◌}
-use Rattle.heap_model.specs.Database.{database_in}
-use Rattle.heap_model.specs.DatabaseSteps.{info_block, info_block_under}
-use Rattle.heap_model.specs.Store.{store_of}
-use Rattle.palm_store.proofs.MemoryCalls.{ask_viewed}
-use Rattle.palm_store.proofs.InfoBlocks.{block_here}
-use Rattle.palm_store.proofs.BlockCalls.{known_number, no_block_there, block_told}
+use Rattle.palm_store.proofs.Laws.{◌≡◌, ℕ, List, sym, ap, ◌∙◌, database_in, info_block, info_block_under, store_of, ask_viewed, block_here, known_number, no_block_there, block_told}
 use Rattle.palm_store.proofs.store.Store.info_block.Goals as goal
 
 pub returns-then-name-eq0 : goal.returns-then-name-eq0

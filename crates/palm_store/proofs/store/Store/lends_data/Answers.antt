@@ -1,9 +1,4 @@
-use Rattle.std.proofs.Common.{subst}
-use Rattle.std.specs.Prelude.{◌↔◌, IsTrue, Any}
-use Rattle.heap_model.specs.Memory.{Memory}
-use Rattle.heap_model.specs.Lending.{IsLent}
-use Rattle.heap_model.specs.declared.names.Db.{Db}
-use Rattle.palm_store.specs.Databases.{named_under}
+use Rattle.palm_store.proofs.Words.{subst, ◌↔◌, IsTrue, Any, Memory, IsLent, Db, named_under}
 use Rattle.palm_store.proofs.store.Store.lends_data.Goals as goal
 
 pub opened_of-requires-clause-number : goal.opened_of-requires-clause-number

@@ -1,7 +1,6 @@
 -- Each turn appends the next loan.
-use Rattle.std.proofs.Common.{ℕ, List, [], ◌∷◌, ◌++◌, sym, subst, append_assoc, append-nil, arith}
-use Rattle.heap_model.specs.declared.names.Name.{Name}
-use Rattle.mem_manager.specs.Loans.{AreLoansAbove}
+use Rattle.palm_store.proofs.Words.{ℕ, List, [], ◌∷◌, ◌++◌, sym, subst, append_assoc, arith, Name, AreLoansAbove}
+use Rattle.std.proofs.Common.{append-nil}
 use Rattle.palm_store.proofs.store.Store.loans_from.Goals as goal
 
 pub loop-loan-init : goal.loop-loan-init

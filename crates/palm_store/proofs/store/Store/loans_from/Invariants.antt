@@ -1,7 +1,5 @@
 -- The names so far, followed by those of the loans above the last place, are those of all loans.
-use Rattle.std.proofs.Common.{ℕ, List, ◌++◌, ◌-◌, ◌^◌}
-use Rattle.heap_model.specs.declared.names.Name.{Name}
-use Rattle.mem_manager.specs.Loans.{AreLoansAbove}
+use Rattle.palm_store.proofs.Words.{ℕ, List, ◌++◌, ◌-◌, ◌^◌, Name, AreLoansAbove}
 use Rattle.palm_store.proofs.store.Store.loans_from.Given as goal
 
 abbrev pub invariant-loop-loan : goal.invariant-loop-loan

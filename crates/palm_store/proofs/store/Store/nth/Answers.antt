@@ -1,6 +1,5 @@
+use Rattle.palm_store.proofs.Laws.{slot_in, at_index, no_index}
 use Rattle.std.proofs.Common.{sym, arith}
-use Rattle.palm_store.proofs.Numbers.{slot_in}
-use Rattle.palm_store.proofs.Lookups.{at_index, no_index}
 use Rattle.palm_store.proofs.store.Store.nth.Goals as goal
 
 pub returns-then-index-directory : goal.returns-then-index-directory

@@ -1,7 +1,5 @@
+use Rattle.palm_store.proofs.Laws.{rewritten_steps, stand_still, seen_bytes}
 use Rattle.heap_model.specs.Store.{store_of}
-use Rattle.palm_store.proofs.FilledData.{rewritten_steps}
-use Rattle.palm_store.proofs.KnownIds.{stand_still}
-use Rattle.palm_store.proofs.Loans.{seen_bytes}
 use Rattle.palm_store.proofs.store.Store.put_back.Goals as goal
 
 pub invariant_of-self : goal.invariant_of-self

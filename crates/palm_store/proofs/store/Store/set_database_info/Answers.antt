@@ -1,20 +1,8 @@
 -- What was found of the database and of the name, and what was written, is what a header that is
 -- set has.
-use Rattle.std.proofs.Common.{ℕ, List, refl, subst, inl, inr}
-use Rattle.heap_model.specs.Database.{IsDatabaseName, IsSpelled, database_in}
-use Rattle.heap_model.specs.Bytes.{overwritten}
-use Rattle.heap_model.specs.Store.{store_of}
-use Rattle.heap_model.specs.DatabaseSteps.{IsTaken}
+use Rattle.palm_store.proofs.Laws.{ℕ, List, refl, subst, inl, inr, IsDatabaseName, IsSpelled, database_in, overwritten, store_of, IsTaken, SetInfo, AlreadyExists, refused, known_number, viewed, ask_viewed, not_taken, nothing_known, number_here}
 use Rattle.heap_model.specs.declared.call.Call.TheVariants as calls
-use Rattle.heap_model.specs.declared.call.DatabaseCall.TheVariants.{SetInfo}
-use Rattle.heap_model.specs.declared.refusal.Refusal.TheVariants.{AlreadyExists}
-use Rattle.laws_store.proofs.CallSteps.{refused}
-use Rattle.palm_store.proofs.BlockCalls.{known_number}
-use Rattle.palm_store.proofs.MemoryCalls.{viewed, ask_viewed}
-use Rattle.palm_store.proofs.Creation.{not_taken}
 use Rattle.palm_store.proofs.HeaderInfos.{with_info, set_spelled, set_step}
-use Rattle.palm_store.proofs.KnownIds.{nothing_known}
-use Rattle.palm_store.proofs.Loans.{number_here}
 use Rattle.palm_store.proofs.store.Store.set_database_info.Goals as goal
 
 pub invariant_of-self : goal.invariant_of-self

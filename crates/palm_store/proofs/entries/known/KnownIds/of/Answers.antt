@@ -1,6 +1,4 @@
-use Rattle.std.proofs.Common.{ap, ◌∙◌, arith}
-use Rattle.heap_model.specs.Lists.{times}
-use Rattle.palm_store.proofs.KnownIds.{same_number}
+use Rattle.palm_store.proofs.Laws.{ap, ◌∙◌, arith, times, same_number}
 use Rattle.palm_store.proofs.entries.known.KnownIds.of.Goals as goal
 
 pub returns-then-self-db-clause-free : goal.returns-then-self-db-clause-free
