@@ -1,4 +1,5 @@
--- A text that is put together part by part: the rest of it, after what is there, makes it whole.
+-- If a part is appended, the text that is there and the rest still make the whole, and there is
+-- room.
 use Rattle.std.proofs.Common.{◌≡◌, ℕ, ◌+◌, ◌≤◌, List, ◌++◌, length, sym, ap, ◌∙◌, arith, append_assoc, length-append}
 
 -- one more part, which is at the front of the rest

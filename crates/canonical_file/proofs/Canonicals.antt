@@ -1,4 +1,4 @@
--- No word is said of a file exactly if it is its canonical form.
+-- A file has no change exactly if it is its canonical form.
 use Rattle.std.proofs.Common.{◌≡◌, ℕ, ◌≤◌, Bool, true, false, Option, List, length, refl, sym, ap, subst, ◌∙◌}
 use Rattle.std.specs.Prelude.{◌↔◌, ◌||◌, not, IsTrue, IsFalse, Result, Ok, Err, IfOk}
 use Rattle.heap_model.specs.Bytes.{AreBytes}

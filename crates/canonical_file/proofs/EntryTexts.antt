@@ -1,4 +1,4 @@
--- The entries of a canonical form, one after the other.
+-- Each entry that is written with its new offset is the next one of the canonical form.
 use Rattle.std.proofs.Common.{◌≡◌, ℕ, ◌+◌, ◌<◌, Option, None, List, ◌∷◌, ◌++◌, length, get_or, drop, refl, sym, ap, ◌∙◌, arith, add-one, drop-cons}
 use Rattle.heap_model.specs.Database.{Entry, a_record, a_resource, entry_data, entry_with, entry_bytes, entry_count_in, entry_in}
 use Rattle.heap_model.specs.Files.{idle_attributes, blocks_in, block_size, block_offset}

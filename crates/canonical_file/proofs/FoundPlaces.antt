@@ -1,4 +1,4 @@
--- The places of the blocks of a file without fault are found: its starts can be sorted.
+-- The places of the blocks of a file without fault can be found: its starts can be sorted.
 use Rattle.std.proofs.Common.{◌≡◌, ℕ, zero, suc, ◌+◌, ◌≤◌, Bool, true, false, Option, None, List, [], ◌∷◌, length, get_or, replicate, refl, subst, arith, inl, inr}
 use Rattle.std.specs.Prelude.{◌^◌, All, nat_le}
 use Rattle.std.specs.List.{insert, prefix_len, sum_by}

@@ -1,4 +1,5 @@
--- The database that is read with the IDs that a file's records are given.
+-- A file without fault whose records get IDs is known (`Known`), and keeps its IDs if they are the
+-- same.
 use Rattle.std.proofs.Common.{◌≡◌, ℕ, ◌+◌, ◌<◌, ◌≤◌, Bool, true, false, Option, List, length, refl, sym, ap, subst, ◌∙◌, arith}
 use Rattle.std.specs.Prelude.{◌↔◌, All, not, IsTrue, IsFalse}
 use Rattle.heap_model.specs.Bytes.{AreBytes}

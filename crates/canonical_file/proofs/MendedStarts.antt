@@ -1,5 +1,4 @@
--- The mended file by its first bytes: the others, and the bytes of its blocks, are those of the
--- damaged file.
+-- Only the first bytes of the mended file are new: the others are those of the damaged file.
 use Rattle.std.proofs.Common.{◌≡◌, ℕ, zero, suc, ◌+◌, ◌-◌, ◌<◌, ◌≤◌, ◌^◌, Bool, true, false, Some, List, [], ◌++◌, length, take, drop, get_or, min, refl, sym, ap, subst, ◌∙◌, arith, length-append, length-drop, append-nil, append_assoc, inl, inr}
 use Rattle.std.specs.Prelude.{◌≢◌, ◌⊎◌, slice_range}
 use Rattle.std.specs.List.{flat_map, range_with_len}

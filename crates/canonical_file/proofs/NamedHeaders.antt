@@ -1,4 +1,4 @@
--- The header of the sound parts: it is read from the file's header with a name.
+-- The header of the sound parts is read from the file's header with a name.
 use Rattle.std.proofs.Common.{◌≡◌, ℕ, ◌+◌, ◌≤◌, List, ◌++◌, length, take, drop, refl, sym, ap, ◌∙◌, arith}
 use Rattle.std.specs.Prelude.{slice_range}
 use Rattle.std.proofs.lemmas.List.{drop-take, take_at}

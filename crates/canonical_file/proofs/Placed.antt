@@ -1,5 +1,4 @@
--- The entries of a database with the offsets that its file gives their data, next to the entries of
--- a file that is read as the database.
+-- The entries of a database, with the offsets of its file, are those of a file that is read as it.
 use Rattle.std.proofs.Common.{◌≡◌, ℕ, zero, suc, ◌+◌, ◌^◌, ◌<◌, ◌≤◌, Bool, true, false, Option, Some, None, List, [], ◌∷◌, length, map, refl, sym, ap, subst, ◌∙◌, arith}
 use Rattle.std.specs.Prelude.{All}
 use Rattle.std.specs.List.{AllZip, filter_map}

@@ -1,4 +1,4 @@
--- Offsets that rise: which is the first of them, and what is less than all of them.
+-- The first of offsets that rise is the least, and each block ends at the next offset.
 use Rattle.std.proofs.Common.{◌≡◌, ℕ, zero, suc, ◌+◌, ◌<◌, ◌≤◌, Bool, true, false, List, [], ◌∷◌, ◌++◌, get_or, take, drop, refl, ap, ◌∙◌, arith}
 use Rattle.std.specs.Prelude.{◌↔◌, min, nat_lt, nat_le, filter}
 use Rattle.std.specs.List.{fold}

@@ -1,4 +1,4 @@
--- Runs of neighbouring blocks.
+-- Two blocks that are neighbours in a file are one run of its bytes.
 use Rattle.std.proofs.Common.{◌≡◌, ℕ, ◌≤◌, Option, Some, None, List, [], ◌++◌, drop, true, refl, sym, ap, subst, ◌∙◌, arith, append-nil, append_assoc, Bool}
 use Rattle.std.specs.Prelude.{slice_range}
 use Rattle.std.proofs.lemmas.List.{append_cancel_right}

@@ -1,4 +1,4 @@
--- The lines about the parts of a file that aren't sound.
+-- The line about a part of a file is empty exactly if the part is sound.
 use Rattle.std.proofs.Common.{◌≡◌, ℕ, suc, ◌+◌, ◌<◌, Bool, true, false, Option, List, [], ◌++◌, drop, sym, ap, subst, ◌∙◌, arith, drop-cons}
 use Rattle.std.specs.Prelude.{not}
 use Rattle.std.specs.List.{concat}

@@ -1,4 +1,5 @@
--- The sound ones among the first entries of a file, as they are counted and appended.
+-- The sound ones among the first entries of a file, counted or appended one by one, are all in the
+-- end.
 use Rattle.std.proofs.Common.{◌≡◌, ℕ, ◌+◌, ◌≤◌, Bool, true, false, cond, List, [], ◌∷◌, ◌++◌, length, take, drop, refl, sym, ap, ◌∙◌, arith, append_assoc, length-append}
 use Rattle.std.specs.Prelude.{filter}
 use Rattle.std.specs.List.{flat_map}

@@ -1,4 +1,5 @@
--- What is sound, and the faults of a file: a file without fault has no part that isn't sound.
+-- A part of a file is sound exactly if it has no fault, so a file without fault has only sound
+-- parts.
 use Rattle.std.proofs.Common.{◌≡◌, ℕ, zero, suc, ◌-◌, ◌/◌, ◌<◌, ◌≤◌, Bool, true, false, Some, List, [], ◌∷◌, length, get_or, min, refl, sym, ap, subst, ◌∙◌, arith, inl, inr}
 use Rattle.std.specs.Prelude.{◌≢◌, ◌⊎◌, ◌==◌, ◌&&◌, ◌||◌, if◌then◌else◌, All, filter, nat_le, slice_range}
 use Rattle.std.specs.List.{fold}

@@ -1,4 +1,4 @@
--- The first fault of a file, from those that it doesn't have.
+-- The first fault of a file, or that it has none, from the faults that it doesn't have.
 use Rattle.std.proofs.Common.{◌≡◌, ℕ, zero, suc, ◌<◌, ◌≤◌, ◌+◌, ◌++◌, List, [], ◌∷◌, take, drop, get_or, map, refl, sym, ap, ◌∙◌, arith, drop-cons}
 use Rattle.std.specs.List.{All, range_with_len}
 use Rattle.std.proofs.lemmas.List.{take-append-drop}

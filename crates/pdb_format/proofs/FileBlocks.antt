@@ -1,4 +1,4 @@
--- The blocks of a file by their rank, and how many bytes they have.
+-- How many blocks a file has, and which block and which size is at a rank, from its offsets.
 use Rattle.std.proofs.Common.{◌≡◌, ℕ, zero, suc, ◌+◌, ◌-◌, ◌<◌, ◌≤◌, Bool, true, false, Option, Some, None, List, length, get_or, drop, map, refl, sym, ap, subst, ◌∙◌, arith, length-drop, inl, inr}
 use Rattle.std.specs.Prelude.{All, slice_range, slice_index}
 use Rattle.std.proofs.lemmas.List.{length-map, length-take, get_or-map}

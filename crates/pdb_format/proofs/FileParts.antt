@@ -1,4 +1,4 @@
--- The parts of the file of a database, and how long they are.
+-- The file of a database, and its size, are put together from its header, entries and blocks.
 use Rattle.std.proofs.Common.{◌≡◌, ℕ, ◌+◌, Option, List, [], ◌∷◌, ◌++◌, length, refl, arith, append_assoc, length-append}
 use Rattle.heap_model.specs.Bytes.{u16_bytes, u24_bytes, u32_bytes}
 use Rattle.heap_model.specs.Database.{Database, Entry, a_record, a_resource, entry_bytes, entry_data, spelled}

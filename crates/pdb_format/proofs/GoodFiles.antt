@@ -1,5 +1,4 @@
--- What is known of a file without fault: it has its header and its entries, and its blocks begin
--- within it.
+-- A file without fault has its header and its entries, and its blocks begin within it.
 use Rattle.std.proofs.Common.{◌≡◌, ℕ, zero, suc, ◌+◌, ◌<◌, ◌≤◌, Bool, true, false, List, length, get_or, refl, ap, subst, ◌∙◌, arith, inl, inr}
 use Rattle.std.proofs.lemmas.Bool.{cases_eq, cases_lt}
 use Rattle.std.proofs.lemmas.List.{length-map, get_or-map, get_or_past}

@@ -1,4 +1,4 @@
--- The least of some offsets. An offset of 0 is passed over.
+-- A loop over offsets finds the least one above 0. In a file without fault it is after the entries.
 use Rattle.std.proofs.Common.{◌≡◌, ℕ, zero, suc, ◌<◌, ◌≤◌, Bool, true, false, cond, List, [], ◌∷◌, length, get_or, ap, ◌∙◌, arith}
 use Rattle.std.specs.Prelude.{min, nat_lt, filter}
 use Rattle.std.specs.List.{fold}

@@ -1,4 +1,4 @@
--- Blocks that are put down at their ranks, one start after the other.
+-- Blocks that are put at their ranks, one sorted start after the other, are the places of the file.
 use Rattle.std.proofs.Common.{◌≡◌, ℕ, zero, suc, ◌+◌, ◌<◌, ◌≤◌, List, [], ◌∷◌, length, get_or, set, map, Option, Some, None, refl, sym, ap, subst, ◌∙◌, arith, inl, inr}
 use Rattle.std.specs.Prelude.{◌^◌, min, slice_index}
 use Rattle.std.specs.List.{All, fold, sum_by, range_with_len}

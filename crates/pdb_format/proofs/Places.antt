@@ -1,4 +1,5 @@
--- The places of the blocks by their rank, and entries as they are written.
+-- A block's place begins at the offset of its rank, and an entry with its ID is written as it was
+-- read.
 use Rattle.std.proofs.Common.{◌≡◌, ℕ, zero, suc, ◌+◌, ◌<◌, Option, Some, None, List, length, get_or, refl, ap, ◌∙◌, arith}
 use Rattle.std.specs.Prelude.{slice_index}
 use Rattle.std.proofs.lemmas.List.FromFn.{get_or-map-range_with_len}

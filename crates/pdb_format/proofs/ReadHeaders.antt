@@ -1,4 +1,4 @@
--- The header that is read off a file, with another seed.
+-- A header that is read off a file is the header of its database, also with another seed.
 use Rattle.std.proofs.Common.{◌≡◌, ℕ, List, refl, ap, ◌∙◌}
 use Rattle.std.proofs.lemmas.List.FromFn.{length-map-range_with_len}
 use Rattle.heap_model.specs.UniqueIds.{with_seed}

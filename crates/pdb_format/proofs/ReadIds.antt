@@ -1,5 +1,4 @@
--- The IDs that the records of a file are given: there are some, and no others, if there are fewer
--- records than IDs.
+-- The records of a file get IDs, and only these, if there are fewer records than IDs.
 use Rattle.std.proofs.Common.{◌≡◌, ℕ, ◌+◌, ◌<◌, ◌≤◌, Bool, true, false, List, [], ◌∷◌, length, refl, sym, ap, ◌∙◌, arith, inl, inr}
 use Rattle.heap_model.specs.Files.{keeps_id, kept_ids, AreGiven}
 use Rattle.laws_heap.proofs.Tests.{true_or_false, cond-true, cond-false}

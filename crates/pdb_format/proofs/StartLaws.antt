@@ -1,4 +1,4 @@
--- What the first bytes of a file say of the file.
+-- The first bytes of a file give the header fields, the name and the entries that the file has.
 use Rattle.std.proofs.Common.{◌≡◌, ◌<◌, ◌≤◌, ℕ, Bool, true, false, List, [], ◌++◌, ◌⊎◌, inl, inr, length, take, drop, ◌+◌, ◌-◌, ◌^◌, sym, ap, subst, ◌∙◌, arith, append-nil}
 use Rattle.std.specs.Prelude.{min, slice_range}
 use Rattle.std.proofs.lemmas.List.{take_all, take_min, drop_all, length-drop, length-take, drop-append-le, take-append-le, take-take}

@@ -1,4 +1,4 @@
--- The machine value of a struct of ghosts alone: what is owned tells it, and is made of nothing.
+-- The machine value of a struct that has only ghost fields is made of nothing.
 use Rattle.std.proofs.Common.{List, [], ◌∷◌, refl}
 use seplogic.Ra.Ura.{Ura}
 use mir.Val.{Val, vstruct, vnil}

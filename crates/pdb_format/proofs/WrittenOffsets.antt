@@ -1,4 +1,4 @@
--- Blocks that follow each other: their offsets, where each of them ends, and the bytes between.
+-- Blocks that follow each other in a file have rising offsets, and each ends where the next begins.
 use Rattle.std.proofs.Common.{◌≡◌, ℕ, ◌+◌, ◌<◌, ◌≤◌, Bool, true, false, cond, Option, Some, None, List, [], ◌∷◌, ◌++◌, length, take, drop, refl, sym, ap, ◌∙◌, arith, length-append}
 use Rattle.std.specs.Prelude.{min, nat_lt, nat_le, filter}
 use Rattle.std.specs.List.{flat_map, fold}

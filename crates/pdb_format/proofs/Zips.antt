@@ -1,4 +1,5 @@
--- Two lists element by element, and lists of what a function gives of the elements of another.
+-- Lists related element by element are equally long; what a function gives of each element is a
+-- list as long.
 use Rattle.std.proofs.Common.{◌≡◌, ℕ, zero, suc, ◌+◌, ◌<◌, List, [], ◌∷◌, length, get_or, map, Option, Some, None, refl, ap, subst, ◌∙◌, arith}
 use Rattle.std.specs.List.{AllZip, cons_option, filter_map, range_with_len}
 

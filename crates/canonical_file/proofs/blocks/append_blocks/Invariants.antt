@@ -1,5 +1,5 @@
--- The loop of `append_blocks` keeps its invariant: the blocks that are left make the text whole,
--- and there is room for them.
+-- The loop of `append_blocks` keeps its invariant: the blocks that are left complete the text, and
+-- there is room for them.
 use Rattle.std.proofs.Common.{◌≡◌, ◌+◌, ◌≤◌, ◌++◌, length, drop, vec_len, vec_capacity}
 use Rattle.canonical_file.specs.Canonical.{blocks_at}
 use Rattle.canonical_file.proofs.blocks.append_blocks.Given as goal

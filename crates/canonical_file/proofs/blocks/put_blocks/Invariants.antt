@@ -1,4 +1,5 @@
--- The invariant of the loop of `put_blocks`.
+-- The loop of `put_blocks` keeps its invariant: the run lies within the source, and the run and the
+-- blocks that are left complete the text.
 use Rattle.std.proofs.Common.{◌++◌, length, drop, Bool}
 use Rattle.std.specs.Prelude.{Some}
 use Rattle.palm_text.specs.Counted.{Writing, Writes}
@@ -6,9 +7,6 @@ use Rattle.pdb_format.specs.Blocks.{IsBlockWithin}
 use Rattle.canonical_file.specs.Canonical.{blocks_at, run_bytes}
 use Rattle.canonical_file.proofs.blocks.put_blocks.Given as goal
 
--- the run lies within the source, and whatever is written from here on, the run first, completes
--- the
--- text
 abbrev pub invariant-loop-index : goal.invariant-loop-index
 invariant-loop-index g l = record {
   within : IsBlockWithin (length l.source) (Some l.run);

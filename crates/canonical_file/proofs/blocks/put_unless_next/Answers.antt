@@ -1,5 +1,4 @@
--- `put_unless_next` adds a block to a run: neighbouring blocks, which are not written yet, by the
--- laws of Runs.
+-- `put_unless_next` adds a block to the run if it is the run's neighbour, by the laws of Runs.
 use Rattle.std.proofs.Common.{◌≡◌, length, refl, sym, subst, rules}
 use Rattle.std.specs.Prelude.{Option}
 use Rattle.pdb_format.specs.Blocks.{IsBlockWithin}

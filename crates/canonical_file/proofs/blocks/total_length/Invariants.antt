@@ -1,4 +1,4 @@
--- The invariant of the loop of `total_length`.
+-- The loop of `total_length` keeps its invariant: the total is that of the blocks before the index.
 use Rattle.std.proofs.Common.{◌≡◌, take}
 use Rattle.std.specs.List.{sum_by}
 use Rattle.pdb_format.specs.Blocks.{length_within}

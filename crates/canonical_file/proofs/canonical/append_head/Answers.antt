@@ -1,5 +1,5 @@
 -- `append_head` writes the part of a new file before its blocks into an empty vector that has room
--- for it.
+-- for it, by the laws of Lengths and WrittenOffsets.
 use Rattle.std.proofs.Common.{◌≡◌, ℕ, List, [], ◌∷◌, ◌++◌, length, sym, ap, ◌∙◌, arith, append_assoc}
 use Rattle.heap_model.specs.Files.{blocks_in}
 use Rattle.pdb_format.specs.FileTexts.{header_text, entries_text}

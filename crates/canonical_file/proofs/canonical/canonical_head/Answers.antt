@@ -1,5 +1,5 @@
--- `canonical_head` returns the part of the canonical form of a file before its blocks: all of it
--- but the blocks.
+-- `canonical_head` returns the part of the canonical form of a file before its blocks, by the laws
+-- of Canonicals and WrittenOffsets.
 use Rattle.std.proofs.Common.{◌++◌}
 use Rattle.heap_model.specs.Files.{blocks_in}
 use Rattle.pdb_format.proofs.FileIds.{ids_for}

@@ -1,5 +1,5 @@
--- `form_size` returns the size of a new file in bytes, by the part before its blocks, by the laws
--- of WrittenOffsets and BlockTexts.
+-- `form_size` returns the size of a new file from the size of its part before the blocks, by the
+-- laws of WrittenOffsets and BlockTexts.
 use Rattle.std.proofs.Common.{arith, length-append}
 use Rattle.heap_model.specs.Files.{blocks_in}
 use Rattle.pdb_format.proofs.WrittenOffsets.{all_bytes}

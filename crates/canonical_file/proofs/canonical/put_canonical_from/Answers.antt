@@ -1,5 +1,5 @@
--- `put_canonical_from` meets its contract (the same as `put_written` for the canonical form of a
--- file, whose records get these IDs), by the laws of Canonicals.
+-- `put_canonical_from` writes the canonical form of a file, or a prefix of it if a write fails, by
+-- the laws of Canonicals.
 use Rattle.canonical_file.proofs.Canonicals.{cut_canonical, wrote_canonical}
 use Rattle.canonical_file.proofs.canonical.put_canonical_from.Goals as goal
 

@@ -1,5 +1,5 @@
--- `changes_by` meets its contract (the same as `find_changes`, for the IDs that the file's records
--- get), by the laws of Canonicals.
+-- `changes_by` returns the changes of a file whose records get these IDs, by the laws of Canonicals
+-- and Given.
 use Rattle.std.proofs.Common.{◌≡◌, ℕ, List, length, ap, ◌∙◌}
 use Rattle.std.specs.Prelude.{◌↔◌, IsTrue}
 use Rattle.heap_model.specs.Database.{database_in}

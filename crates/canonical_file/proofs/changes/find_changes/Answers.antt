@@ -1,4 +1,5 @@
--- `find_changes` returns the changes of a file when it is rewritten, by the contracts of its calls.
+-- `find_changes` calls `changes_by` with IDs that the file's records get, by the contracts of its
+-- calls.
 use Rattle.canonical_file.proofs.changes.find_changes.Goals as goal
 
 pub changes_by-requires-clause-given : goal.changes_by-requires-clause-given

@@ -1,4 +1,4 @@
--- The invariant of the loop of `count_set`.
+-- The loop of `count_set` keeps its invariant: the count is that of the bytes before this one.
 use Rattle.std.proofs.Common.{◌≡◌, ◌≤◌, take}
 use Rattle.std.specs.Prelude.{count_by}
 use Rattle.canonical_file.specs.Dropped.{is_set}

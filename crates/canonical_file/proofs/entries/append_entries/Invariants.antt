@@ -1,4 +1,5 @@
--- The invariant of the loop of `append_entries`.
+-- The loop of `append_entries` keeps its invariant: the entries that are left complete the text,
+-- there is room for them, and the data that is left ends at an offset of four bytes.
 use Rattle.std.proofs.Common.{◌≡◌, ◌+◌, ◌≤◌, ◌<◌, ◌^◌, ◌++◌, length, drop, vec_len, vec_capacity}
 use Rattle.std.specs.List.{sum_by}
 use Rattle.pdb_format.specs.Blocks.{length_within}
@@ -7,8 +8,6 @@ use Rattle.pdb_format.specs.ReadFiles.{entries_read}
 use Rattle.canonical_file.specs.Written.{ids_of}
 use Rattle.canonical_file.proofs.entries.append_entries.Given as goal
 
--- The entries that are left make the text whole, and there is room for them. The data that is left
--- ends at an offset of four bytes.
 abbrev pub invariant-loop-index : goal.invariant-loop-index
 invariant-loop-index g l = record {
   short : l.at + sum_by length_within (drop (2 + l.index) l.blocks) < 2 ^ 32;

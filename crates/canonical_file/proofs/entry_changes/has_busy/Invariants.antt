@@ -1,4 +1,4 @@
--- The invariant of the loop of `has_busy`.
+-- The loop of `has_busy` keeps its invariant: no entry before the index is busy.
 use Rattle.std.proofs.Common.{ℕ, ◌<◌}
 use Rattle.heap_model.specs.Database.{entry_in}
 use Rattle.canonical_file.specs.Changes.{IsIdle}

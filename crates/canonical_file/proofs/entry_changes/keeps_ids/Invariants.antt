@@ -1,4 +1,4 @@
--- The invariant of the loop of `keeps_ids`.
+-- The loop of `keeps_ids` keeps its invariant: the IDs before the index are those in the file.
 use Rattle.std.proofs.Common.{◌≡◌, ℕ, ◌<◌, get_or}
 use Rattle.heap_model.specs.Database.{database_in}
 use Rattle.heap_model.specs.Store.{unique_ids}

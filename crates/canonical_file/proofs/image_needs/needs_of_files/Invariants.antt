@@ -1,4 +1,5 @@
--- The invariant of the loop of `needs_of_files`.
+-- The loop of `needs_of_files` keeps its invariant: the needs are those of the files before the
+-- index, at most `enough`.
 use Rattle.std.proofs.Common.{◌≡◌, take}
 use Rattle.std.specs.Prelude.{min}
 use Rattle.std.specs.List.{sum_by}

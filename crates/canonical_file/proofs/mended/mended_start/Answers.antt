@@ -1,4 +1,5 @@
--- `mended_start` meets its contract, by the laws of MendedFiles and MendedStarts.
+-- `mended_start` returns the first bytes of the mended file, by the laws of MendedFiles and
+-- MendedStarts.
 use Rattle.std.proofs.Common.{◌≤◌, refl, arith}
 use Rattle.std.proofs.lemmas.Grind.{common_steps}
 use Rattle.canonical_file.specs.Salvage.{sound_in}

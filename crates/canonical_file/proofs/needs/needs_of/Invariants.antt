@@ -1,4 +1,5 @@
--- The invariant of the loop of `needs_of`.
+-- The loop of `needs_of` keeps its invariant: the needs are those of the header, the entries and
+-- the blocks before this rank.
 use Rattle.std.proofs.Common.{◌≡◌, ◌+◌, take}
 use Rattle.std.specs.List.{sum_by}
 use Rattle.heap_model.specs.Chunk.{need}

@@ -1,4 +1,4 @@
--- `entry_with_id` meets its contract, by the laws of OwnIds.
+-- `entry_with_id` returns the entry as it is read with the IDs of the file, by the laws of OwnIds.
 use Rattle.std.proofs.Common.{◌∙◌, ℕ, List, sym, ap}
 use Rattle.heap_model.specs.Database.{entry_with}
 use Rattle.pdb_format.specs.ReadFiles.{entry_read_at}
@@ -6,7 +6,6 @@ use Rattle.canonical_file.specs.Written.{ids_of}
 use Rattle.canonical_file.proofs.OwnIds.{own_read}
 use Rattle.canonical_file.proofs.record_ids.entry_with_id.Goals as goal
 
--- the entry with its own ID is the one that is read with the IDs of the file
 pub returns-in-Own-clause-is : goal.returns-in-Own-clause-is
 returns-in-Own-clause-is g c =
     let file = c.args.file.now in

@@ -1,4 +1,5 @@
--- `put_distinct` writes the canonical form of a file, by the laws of FileIds.
+-- `put_distinct` calls `put_canonical_from` with IDs that the file's records get, by the laws of
+-- FileIds.
 use Rattle.pdb_format.proofs.FileIds.{ids_for}
 use Rattle.canonical_file.proofs.salvage.put_distinct.Goals as goal
 

@@ -1,5 +1,5 @@
--- The loop of `put_entry_lines` keeps its invariant: whatever is written from here on completes the
--- lines.
+-- The loop of `put_entry_lines` keeps its invariant: the lines about the entries that are left
+-- complete the text.
 use Rattle.std.proofs.Common.{drop, Bool}
 use Rattle.std.specs.List.{concat}
 use Rattle.heap_model.specs.Lists.{numbered}

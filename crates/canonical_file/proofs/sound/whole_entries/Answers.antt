@@ -1,4 +1,4 @@
--- `whole_entries` returns the number of entries that the file has as a whole, by the laws of
+-- `whole_entries` returns a number of entries that lie within the file, by the laws of
 -- WholeEntries.
 use Rattle.std.proofs.Common.{◌≡◌, ◌≤◌, ℕ, length, sym, subst}
 use Rattle.heap_model.specs.Database.{entry_count_in, entry_offset, resources_in}
@@ -6,7 +6,6 @@ use Rattle.canonical_file.specs.Salvage as words
 use Rattle.canonical_file.proofs.WholeEntries.{whole_inside}
 use Rattle.canonical_file.proofs.sound.whole_entries.Goals as goal
 
--- the entries before the end of the file are within the file
 pub returns-clause-inside : goal.returns-clause-inside
 returns-clause-inside c =
     let file = c.args.file.now in

@@ -1,4 +1,5 @@
--- The invariant of the loop of `put_blocks`.
+-- The loop of `put_blocks` keeps its invariant: the blocks that start before the index are at their
+-- ranks, and the sum of their lengths is known.
 use Rattle.std.proofs.Common.{◌≡◌, ◌+◌, length}
 use Rattle.std.specs.List.{sum_by}
 use Rattle.heap_model.specs.Files.{offsets_in}

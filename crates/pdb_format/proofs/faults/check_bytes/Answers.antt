@@ -1,5 +1,5 @@
--- `check_bytes` checks a file, and returns its first fault, in the order of `file_faults`, by the
--- laws of FaultLaws.
+-- `check_bytes` returns the first fault of a file in the order of `file_faults`, by the laws of
+-- FaultLaws.
 use Rattle.std.proofs.Common.{rules, sym, ◌∙◌}
 use Rattle.std.proofs.lemmas.List.{nil_from_length}
 use Rattle.pdb_format.proofs.FaultLaws.{unnamed_first}

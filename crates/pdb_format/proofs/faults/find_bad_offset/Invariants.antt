@@ -1,4 +1,4 @@
--- The invariant of the loop of `find_bad_offset`.
+-- The loop of `find_bad_offset` keeps its invariant: no entry before the index has a bad offset.
 use Rattle.std.proofs.Common.{ℕ, ◌<◌}
 use Rattle.heap_model.specs.Files.{HasFault}
 use Rattle.heap_model.specs.declared.file_fault.FileFault.TheVariants.{BadOffset}

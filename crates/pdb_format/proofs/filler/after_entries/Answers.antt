@@ -1,4 +1,5 @@
--- `after_entries` returns the two bytes after the entries, by the laws of StartLaws.
+-- `after_entries` returns two bytes that lie within the first bytes of the file, by the laws of
+-- StartLaws.
 use Rattle.std.proofs.Common.{◌+◌, arith, rules}
 use Rattle.heap_model.specs.Files.{entries_end}
 use Rattle.pdb_format.proofs.StartLaws.{ends_within}

@@ -1,4 +1,5 @@
--- `entry_slot` returns the offset of the data of the entry at an index, by the laws of StartLaws.
+-- `entry_slot` reads an entry that lies within the first bytes of the file, by the laws of
+-- StartLaws.
 use Rattle.std.proofs.Common.{◌≤◌, ◌+◌, Bool, length, sym, subst}
 use Rattle.heap_model.specs.Database.{entry_offset}
 use Rattle.pdb_format.proofs.StartLaws.{entry_within_start}

@@ -1,4 +1,4 @@
--- `files_are_read_once` states that no file is read as two databases, by the laws of ReadOnce.
+-- `files_are_read_once` proves that no file is read as two databases, by the laws of ReadOnce.
 use Rattle.pdb_format.proofs.ReadOnce.{read_once}
 use Rattle.pdb_format.proofs.laws.files_are_read_once.Goals as goal
 

@@ -1,5 +1,4 @@
--- `offset_of` returns the offset of the block of a rank, in bytes from the file's start, by the
--- laws of GoodFiles.
+-- `offset_of` returns the offset of the block of a rank, by the laws of GoodFiles.
 use Rattle.std.proofs.Common.{◌≡◌, ◌-◌, ◌<◌, ◌≤◌, ℕ, suc, sym, ap, ◌∙◌, arith, rules, get_or}
 use Rattle.heap_model.specs.Database.{entry_count_in}
 use Rattle.heap_model.specs.Files.{offsets_in}

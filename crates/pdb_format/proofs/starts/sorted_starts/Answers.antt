@@ -1,5 +1,4 @@
--- `sorted_starts` returns the starts of the blocks that the file has, in the order of the blocks in
--- the file.
+-- `sorted_starts` returns starts that rise, by the law of the library's sorting.
 use Rattle.std.proofs.Common.{rules}
 use Rattle.std.proofs.lemmas.List.Sorted.{IsNonDecreasingBy-from_sort_by_key}
 use Rattle.pdb_format.specs.Starts.{order}

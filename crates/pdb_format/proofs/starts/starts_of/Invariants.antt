@@ -1,4 +1,4 @@
--- The invariant of the loop of `starts_of`.
+-- The loop of `starts_of` keeps its invariant: the starts are those of the ranks before this one.
 use Rattle.std.proofs.Common.{◌≡◌}
 use Rattle.heap_model.specs.Files.{offsets_in}
 use Rattle.pdb_format.proofs.SortedStarts.{first_starts}

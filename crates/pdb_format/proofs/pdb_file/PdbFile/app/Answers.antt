@@ -1,5 +1,4 @@
--- `app` returns the first bytes of the AppInfo block, at most `MOST_APP`, if the file has the
--- block.
+-- `app` returns the first bytes of the AppInfo block, at most `MOST_APP`, by the laws of StartLaws.
 use Rattle.std.proofs.Common.{◌≡◌, ◌-◌, ℕ, List, Some, None, take, sym, ap, ◌∙◌, arith}
 use Rattle.std.specs.Prelude.{option_map, slice_index_or, slice_range}
 use Rattle.heap_model.specs.Bytes.{u32_at}

@@ -1,4 +1,4 @@
--- `bytes` returns the bytes of the file, by the contracts of its calls.
+-- `bytes` returns the bytes of a file without fault, by the contracts of its calls.
 use Rattle.std.proofs.Common.{subst}
 use Rattle.heap_model.specs.Bytes.{AreBytes}
 use Rattle.heap_model.specs.Files.{HasNoFault}

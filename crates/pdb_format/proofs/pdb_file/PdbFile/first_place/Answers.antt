@@ -1,5 +1,5 @@
--- `first_place` returns the offset of the first block when the file is written again, by the laws
--- of GoodFiles.
+-- `first_place` returns an offset at most two bytes after the file's end, by the laws of
+-- GoodFiles.
 use Rattle.std.proofs.Common.{◌≡◌, Bool, ap, ◌∙◌, arith}
 use Rattle.heap_model.specs.Database.{resources_in}
 use Rattle.pdb_format.specs.Filler.{first_place_after, first_place}

@@ -1,5 +1,4 @@
--- `header_with_seed` returns the header as it is read, with this seed in the low 24 bits of its
--- field.
+-- `header_with_seed` returns the header as it is read, with this seed, by the laws of ReadHeaders.
 use Rattle.std.proofs.Common.{◌≡◌, ℕ, List, subst, sym}
 use Rattle.heap_model.specs.Database.{IsDatabaseName, entry_count_in}
 use Rattle.db_format.specs.Headers.{header_values}

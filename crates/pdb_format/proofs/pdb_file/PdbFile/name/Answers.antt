@@ -1,4 +1,4 @@
--- `name` returns the name, by the laws of FileNames.
+-- `name` returns a valid database name, by the laws of FileNames.
 use Rattle.std.proofs.Common.{List, ℕ}
 use Rattle.heap_model.specs.Database.{IsDatabaseName, name_in}
 use Rattle.pdb_format.proofs.FileNames.{file_named}
