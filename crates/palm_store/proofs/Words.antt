@@ -8,10 +8,12 @@ pub use Rattle.database_edits.specs.declared.opened.OpenDatabase.{OpenDatabase}
 pub use Rattle.db_format.specs.EitherEntry.{entry_of}
 pub use Rattle.db_format.specs.Headers.{IsHeaderOf, WritesHeader, header_values, info_told, with_header}
 pub use Rattle.db_format.specs.declared.header.DbHeader.{DbHeader}
-pub use Rattle.heap_model.specs.Bytes.{overwritten, sized_to, u16_at, u32_at, u32_bytes}
+pub use Rattle.heap_model.specs.Bytes.{sized_to, u16_at, u32_at, u32_bytes}
+unfoldable pub use Rattle.heap_model.specs.Bytes.{overwritten}
 pub use Rattle.heap_model.specs.Chunk.{Chunk, Spelled, data_owner, fixed, fixed_lock, free, managers_owner, movable, need}
 pub use Rattle.heap_model.specs.Counts.{IsSound, NamesData}
-pub use Rattle.heap_model.specs.Database.{Database, DatabaseFits, DatabaseHeader, Entry, EntryFits, HasShape, IsDatabaseName, IsSpelled, a_record, a_resource, data_in, database_in, entry_bytes, entry_count_in, entry_data, entry_in, entry_offset, entry_with, has_resources, header_bytes, header_in, is_deleted, is_read_only, resources_in, spelled}
+pub use Rattle.heap_model.specs.Database.{Database, DatabaseFits, DatabaseHeader, Entry, EntryFits, HasShape, IsDatabaseName, IsSpelled, a_record, a_resource, data_in, entry_bytes, entry_count_in, entry_data, entry_in, entry_offset, entry_with, has_resources, header_bytes, is_deleted, is_read_only, resources_in}
+unfoldable pub use Rattle.heap_model.specs.Database.{database_in, header_in, spelled}
 pub use Rattle.heap_model.specs.DatabaseFields.{app_info_at, attributes_at, entry_size, header_size, sort_info_at}
 pub use Rattle.heap_model.specs.DatabaseSteps.{IsTaken, create_parts, create_slots, empty_database, header_set, info_block, info_block_of, info_block_set, info_block_taken, info_block_under, info_of, with_info_block}
 pub use Rattle.heap_model.specs.EntrySteps.{HasId, LeavesStore, MakesNone, OfEntry, Tells, data_exchanged, data_freed, data_of_entry, data_under, deleted_bit, entries_in, entries_of, entry_attached, entry_changed, entry_dropped, entry_handed_over, entry_made, entry_swapped, entry_under, holds_resources, most_entries, raised, raised_header, record_told, replaced, replaced_if, resource_told, resources_under, with_attributes, with_chunks, with_entries, with_entry_at, without_data}
@@ -28,7 +30,8 @@ pub use Rattle.heap_model.specs.Reading.{chunks_of, held}
 pub use Rattle.heap_model.specs.Refusals.{Check, FirstBrings, NoneHolds, ◌brings◌}
 pub use Rattle.heap_model.specs.Rooms.{KeepsStretches, Lowers, Part, Stuck, grows, growth_part, makes, making, stretch_of}
 pub use Rattle.heap_model.specs.Space.{MovesNothing, MovesOneStretchAnd, ShortFor, Still, free_behind, free_slots, place_of, place_under, rooms}
-pub use Rattle.heap_model.specs.Store.{Accepted, HasUniqueIds, IsDatabase, IsHeaderSlot, IsInfoBlock, Store, StoredDatabase, bytes_of, bytes_under, database_under, databases, directory_bytes, listed, most_databases, names_of, numbers_of, owner_of, owner_under, store_of, unique_id, unique_ids}
+pub use Rattle.heap_model.specs.Store.{Accepted, HasUniqueIds, IsDatabase, IsHeaderSlot, IsInfoBlock, Store, StoredDatabase, bytes_of, database_under, most_databases, names_of, numbers_of, owner_of, unique_id, unique_ids}
+unfoldable pub use Rattle.heap_model.specs.Store.{bytes_under, databases, directory_bytes, listed, owner_under, store_of}
 pub use Rattle.heap_model.specs.StoreSteps.{Call, DoesInStore, StoreAsBefore, StoreStep}
 pub use Rattle.heap_model.specs.StoreWords.{In, OfDatabase, SameStore, all_gone, with_changed, with_number}
 pub use Rattle.heap_model.specs.declared.call.DatabaseCall.TheVariants.{Count, Create, Delete, Find, Info, InfoBlock, Nth, SetInfo}
@@ -55,7 +58,8 @@ pub use Rattle.laws_store.proofs.EditedStores.{callers_change, change_steps, eac
 pub use Rattle.laws_store.proofs.Entries.{fresh_new, inserted_names, inserted_sound, moved_names, moved_sound, raised_sound, removed_names, removed_sound, replaced_is, replaced_kept, replaced_names, replaced_own, seeded_name}
 pub use Rattle.laws_store.proofs.Found.{changed_by_number, changed_twice, found_stands}
 pub use Rattle.laws_store.proofs.KeptDatabases.{bytes_like, directory_like, number_owner}
-pub use Rattle.laws_store.proofs.NameCounts.{has_id, named-remove, times-ids}
+pub use Rattle.laws_store.proofs.NameCounts.{named-remove, times-ids}
+unfoldable pub use Rattle.laws_store.proofs.NameCounts.{has_id}
 pub use Rattle.laws_store.proofs.NewDatabases.{made_then_none, managers_loose, slots_made, u32s_push}
 pub use Rattle.laws_store.proofs.Numbered.{accepted_sound, accepted_spells, data_here, entries_here, entry_fits, entry_here, entry_names, entry_owner, in_here, in_store, kind_here, number_database, number_held, number_here, number_slot, number_some, number_spelled}
 pub use Rattle.laws_store.proofs.Owners.{directory_owner, owned_slot, owned_some}

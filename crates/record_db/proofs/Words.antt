@@ -9,7 +9,8 @@ pub use Rattle.heap_model.specs.Memory.{Memory}
 pub use Rattle.heap_model.specs.MemorySteps.{IsLocked, Of}
 pub use Rattle.heap_model.specs.RecordSteps.{HasAttributes, HasLockedOf, attributes_set, busy_bit, category_deleted, id_in, id_set, is_busy, released, with_record_info}
 pub use Rattle.heap_model.specs.Refusals.{FirstBrings, NoneHolds}
-pub use Rattle.heap_model.specs.Store.{Accepted, HasData, Store, StoredDatabase, store_of, unique_id, unique_ids}
+pub use Rattle.heap_model.specs.Store.{Accepted, HasData, Store, StoredDatabase, unique_id, unique_ids}
+unfoldable pub use Rattle.heap_model.specs.Store.{store_of}
 pub use Rattle.heap_model.specs.StoreSteps.{DoesInStore}
 pub use Rattle.heap_model.specs.StoreWords.{SameStore, all_gone, with_changed, with_number}
 pub use Rattle.heap_model.specs.declared.call.RecordCall.TheVariants.{Attach, AttachReplacing, DeleteCategory, Get, MoveCategory, New, Release, Remove, Resize, SetInfo}
