@@ -1,3 +1,4 @@
+pub mod Words
 pub mod SurveyLaws
 pub mod SlotLaws
 pub mod OwnerLaws
@@ -13,3 +14,4 @@ pub mod StrayLaws
 pub mod NameLaws
 pub mod NotingLaws
 pub mod MarkLaws
+pub mod Laws

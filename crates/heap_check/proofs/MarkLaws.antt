@@ -1,9 +1,8 @@
--- How many marks are enough, and where they are.
-use Rattle.std.proofs.Common.{◌≡◌, ℕ, ◌/◌, ◌<◌, ◌≤◌, Bool, true, false, cond, List, length, ap, arith}
-use Rattle.heap_model.specs.Slots.{is_chained}
-use Rattle.heap_check.specs.Owners.{marks_needed}
+-- `marks_needed` is enough: a quarter of the length with a chain, else 65535.
+use Rattle.heap_check.proofs.Words.{◌≡◌, ℕ, ◌/◌, ◌<◌, ◌≤◌, Bool, true, false, cond, List, length, ap, arith, is_chained, marks_needed}
 
-pub needed_chained : (image : List ℕ) → is_chained image ≡ true → marks_needed image ≡ length image / 4
+pub needed_chained : (image : List ℕ) → is_chained image ≡ true
+    → marks_needed image ≡ length image / 4
 needed_chained image is = ap (λ (b : Bool). cond {A = ℕ} b (length image / 4) 65535) is
 
 pub needed_plain : (image : List ℕ) → is_chained image ≡ false → marks_needed image ≡ 65535

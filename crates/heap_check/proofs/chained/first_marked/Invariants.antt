@@ -1,3 +1,4 @@
+-- The loop of `first_marked` keeps its invariant: the slots before this number hold bodies.
 use Rattle.heap_check.specs.Chained.{HeldBefore}
 use Rattle.heap_check.proofs.chained.first_marked.Given as goal
 

@@ -1,3 +1,4 @@
+-- `mark_slot` reads a slot that lies within the image, by the laws of laws_heap.
 use Rattle.laws_heap.proofs.Slots.{slot_within}
 use Rattle.heap_check.proofs.chained.mark_slot.Goals as goal
 

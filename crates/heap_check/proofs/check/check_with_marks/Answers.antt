@@ -1,6 +1,5 @@
-use Rattle.std.proofs.Common.{false, refl}
-use Rattle.heap_check.specs.Owners.{met_owner}
-use Rattle.heap_check.proofs.SlotLaws.{none_said}
+-- `check_with_marks` gives `check_area` clear marks, by the laws of SlotLaws.
+use Rattle.heap_check.proofs.Laws.{false, refl, met_owner, none_said}
 use Rattle.heap_check.proofs.check.check_with_marks.Goals as goal
 
 pub check_area-requires-clause-clear : goal.check_area-requires-clause-clear
