@@ -1,12 +1,5 @@
--- Sets of unique IDs, and walks over the records of databases.
-use Rattle.std.proofs.Common.{◌≡◌, ℕ, ◌+◌, ◌/◌, ◌^◌, ◌<◌, ◌≤◌, List, Some, sym, ap, subst, ◌∙◌, arith, inl, inr, lit<}
-use Rattle.std.specs.Prelude.{◌⊎◌}
-use Rattle.std.proofs.lemmas.Bool.{cases_lt}
-use Rattle.heap_model.specs.Lists.{Least, LeastPair}
-use Rattle.store_check.specs.Listing.{listed_count, header_at}
-use Rattle.store_check.specs.Faults.{id_at, HasBadId, IsBadId}
-use Rattle.bit_sets.specs.Sets.{HasNone}
-use Rattle.store_check.specs.Ids.{HasIdsUpTo, HasRoomForIds, HasRoomForAll, HasIdsBefore}
+-- A walk over the records of databases finds the first bad ID, by the set of the IDs before it.
+use Rattle.store_check.proofs.Terms.{◌≡◌, ℕ, ◌+◌, ◌/◌, ◌^◌, ◌<◌, ◌≤◌, List, Some, sym, ap, subst, ◌∙◌, arith, inl, inr, lit<, ◌⊎◌, cases_lt, Least, LeastPair, listed_count, header_at, id_at, HasBadId, IsBadId, HasNone, HasIdsUpTo, HasRoomForIds, HasRoomForAll, HasIdsBefore}
 
 -- ---- a walk over records
 
@@ -23,7 +16,9 @@ pub record GreatestIn (bytes : List ℕ) (least index greatest : ℕ) : Type 0 w
   pub above : least ≤ greatest
   pub small : greatest < 2 ^ 24
 
-pub greatest_in : (bytes : List ℕ) (least index greatest id new : ℕ) → Some id ≡ id_at bytes index → id < 2 ^ 24 → id ≤ new → greatest ≤ new → new < 2 ^ 24 → GreatestIn bytes least index greatest → GreatestIn bytes least (index + 1) new
+pub greatest_in : (bytes : List ℕ) (least index greatest id new : ℕ) → Some id ≡ id_at bytes index
+    → id < 2 ^ 24 → id ≤ new → greatest ≤ new → new < 2 ^ 24 → GreatestIn bytes least index greatest
+    → GreatestIn bytes least (index + 1) new
 greatest_in bytes least index greatest id new is fits here there small g = record {
   ids = λ earlier other below e. elim (cases_lt earlier index) [
     | inl less ↦ let most = g.ids earlier other less e in omega arith
@@ -44,28 +39,37 @@ pub record GreatestSoFar (image : List ℕ) (db greatest : ℕ) : Type 0 where
 pub no_greatest : (image : List ℕ) → GreatestSoFar image 0 0
 no_greatest image = record { ids = λ earlier below. absurd (omega arith); small = lit< tt }
 
-pub greatest_more : (image bytes : List ℕ) (db greatest new : ℕ) → bytes ≡ header_at image db → HasIdsUpTo bytes new → greatest ≤ new → new < 2 ^ 24 → GreatestSoFar image db greatest → GreatestSoFar image (db + 1) new
+pub greatest_more : (image bytes : List ℕ) (db greatest new : ℕ) → bytes ≡ header_at image db
+    → HasIdsUpTo bytes new → greatest ≤ new → new < 2 ^ 24 → GreatestSoFar image db greatest
+    → GreatestSoFar image (db + 1) new
 greatest_more image bytes db greatest new is up low small g = record {
   ids = λ earlier below index id inside e. elim (cases_lt earlier db) [
     | inl less ↦ let most = g.ids earlier less index id inside e in omega arith
     | inr last ↦ let at : db ≡ earlier = omega arith in
-        let here : HasIdsUpTo (header_at image earlier) new = subst (λ (b : List ℕ). HasIdsUpTo b new) (is ∙ ap (header_at image) at) up in
+        let here : HasIdsUpTo (header_at image earlier) new =
+        rw (is ∙ ap (header_at image) at) at up in
         here index id inside e
   ];
   small = small;
 }
 
-pub greatest_all : (image : List ℕ) (db greatest : ℕ) → db ≡ listed_count image → GreatestSoFar image db greatest → (earlier : ℕ) → earlier < listed_count image → HasIdsUpTo (header_at image earlier) greatest
+pub greatest_all : (image : List ℕ) (db greatest : ℕ) → db ≡ listed_count image
+    → GreatestSoFar image db greatest → (earlier : ℕ) → earlier < listed_count image
+    → HasIdsUpTo (header_at image earlier) greatest
 greatest_all image db greatest all g earlier below = g.ids earlier (omega arith)
 
 -- ---- room in a set
 
 -- if no ID is above the greatest, a set that has room for that has room for all
-pub room_for_all : (image : List ℕ) (greatest size : ℕ) → ((db : ℕ) → db < listed_count image → HasIdsUpTo (header_at image db) greatest) → greatest / 8 < size → HasRoomForAll image size
-room_for_all image greatest size up room db below index id inside e = let most = up db below index id inside e in omega arith
+pub room_for_all : (image : List ℕ) (greatest size : ℕ)
+    → ((db : ℕ) → db < listed_count image → HasIdsUpTo (header_at image db) greatest)
+    → greatest / 8 < size → HasRoomForAll image size
+room_for_all image greatest size up room db below index id inside e = let most =
+    up db below index id inside e in omega arith
 
-pub room_here : (image bytes : List ℕ) (db size : ℕ) → bytes ≡ header_at image db → db < listed_count image → HasRoomForAll image size → HasRoomForIds bytes size
-room_here image bytes db size is below room = subst (λ (b : List ℕ). HasRoomForIds b size) (sym is) (room db below)
+pub room_here : (image bytes : List ℕ) (db size : ℕ) → bytes ≡ header_at image db
+    → db < listed_count image → HasRoomForAll image size → HasRoomForIds bytes size
+room_here image bytes db size is below room = rw (← is) at (room db below)
 
 -- ---- all databases
 
@@ -74,14 +78,18 @@ pub record NoneBad (image seen : List ℕ) (db : ℕ) : Type 0 where
   pub empty : HasNone seen
   pub none_bad : (earlier : ℕ) → earlier < db → (index : ℕ) → IsBadId image earlier index → ⊥
 
-pub bad_first : (image bytes seen : List ℕ) (db index : ℕ) → bytes ≡ header_at image db → db < listed_count image → Least (HasBadId bytes) index → NoneBad image seen db → LeastPair (IsBadId image) db index
+pub bad_first : (image bytes seen : List ℕ) (db index : ℕ) → bytes ≡ header_at image db
+    → db < listed_count image → Least (HasBadId bytes) index → NoneBad image seen db
+    → LeastPair (IsBadId image) db index
 bad_first image bytes seen db index is below l n = record {
   here = (below, subst (λ (b : List ℕ). HasBadId b index) is l.here);
   none_before = n.none_bad;
-  none_below = λ other less bad. l.none_below other less (subst (λ (b : List ℕ). HasBadId b other) (sym is) bad.1);
+  none_below = λ other less bad. l.none_below other less (rw (← is) at bad.1);
 }
 
-pub bad_more : (image bytes seen new : List ℕ) (db : ℕ) → bytes ≡ header_at image db → ((index : ℕ) → HasBadId bytes index → ⊥) → HasNone new → NoneBad image seen db → NoneBad image new (db + 1)
+pub bad_more : (image bytes seen new : List ℕ) (db : ℕ) → bytes ≡ header_at image db
+    → ((index : ℕ) → HasBadId bytes index → ⊥) → HasNone new → NoneBad image seen db
+    → NoneBad image new (db + 1)
 bad_more image bytes seen new db is none empty n = record {
   empty = empty;
   none_bad = λ earlier below index bad. elim (cases_lt earlier db) [
@@ -97,6 +105,7 @@ bad_more image bytes seen new db is none empty n = record {
 -- the IDs of the records so far rise, the last of them is the greatest, and 0 stands for the last
 -- of none
 pub record Risen (bytes : List ℕ) (index last : ℕ) : Type 0 where
-  pub above : (later id : ℕ) → later < index → id_at bytes later ≡ Some id → (0 < id) × ((earlier other : ℕ) → earlier < later → id_at bytes earlier ≡ Some other → other < id)
+  pub above : (later id : ℕ) → later < index → id_at bytes later ≡ Some id → (0 < id)
+      × ((earlier other : ℕ) → earlier < later → id_at bytes earlier ≡ Some other → other < id)
   pub greatest : (earlier id : ℕ) → earlier < index → id_at bytes earlier ≡ Some id → id ≤ last
   pub reached : (last ≡ 0) ⊎ ((earlier : ℕ) × (earlier < index) × (id_at bytes earlier ≡ Some last))

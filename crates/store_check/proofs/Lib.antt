@@ -1,3 +1,4 @@
+pub mod Terms
 pub mod LookupLaws
 pub mod SlotWords
 pub mod OwnerLaws
@@ -12,3 +13,4 @@ pub mod ChunkLaws
 pub mod IdLaws
 pub mod NameLaws
 pub mod CheckLaws
+pub mod Lemmas

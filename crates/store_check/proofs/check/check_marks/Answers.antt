@@ -1,9 +1,6 @@
-use Rattle.std.proofs.Common.{[], length, sym, ap, subst, arith}
-use Rattle.std.proofs.lemmas.Result.{IfErr-at_err}
-use Rattle.heap_check.specs.Faults.{FirstBrought}
-use Rattle.store_check.specs.Naming.{AreMarks}
-use Rattle.store_check.specs.Checks.{marked_faults}
-use Rattle.store_check.proofs.CheckLaws.{marked_not_memory}
+-- `check_marks` makes enough clear marks, and returns no other fault if memory lacks, by the laws
+-- of CheckLaws.
+use Rattle.store_check.proofs.Lemmas.{[], length, sym, ap, subst, arith, IfErr-at_err, FirstBrought, AreMarks, marked_faults, marked_not_memory}
 use Rattle.store_check.proofs.check.check_marks.Goals as goal
 
 pub check_with_marks-requires-clause-room : goal.check_with_marks-requires-clause-room
@@ -14,7 +11,9 @@ check_with_marks-requires-clause-room g c number s =
     omega arith
 
 pub check_with_marks-requires-clause-clear : goal.check_with_marks-requires-clause-clear
-check_with_marks-requires-clause-clear g c = subst (AreMarks []) (sym c.deref_mut.ensures.value) c.in-Ok.ensures.clear
+check_with_marks-requires-clause-clear g c =
+    subst (AreMarks []) (sym c.deref_mut.ensures.value) c.in-Ok.ensures.clear
 
 pub returns-clause-no_memory : goal.returns-clause-no_memory
-returns-clause-no_memory g c e = absurd (marked_not_memory c.args.region.now.bytes (IfErr-at_err (FirstBrought (marked_faults c.args.region.now.bytes)) e c.check_with_marks.ensures.fault))
+returns-clause-no_memory g c e = absurd (marked_not_memory c.args.region.now.bytes (IfErr-at_err
+    (FirstBrought (marked_faults c.args.region.now.bytes)) e c.check_with_marks.ensures.fault))

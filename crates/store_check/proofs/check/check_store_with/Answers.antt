@@ -1,3 +1,4 @@
+-- `check_store_with` gives `check_noting` clear marks, by the laws of heap_check.
 use Rattle.heap_check.proofs.SlotLaws.{none_marked}
 use Rattle.store_check.proofs.check.check_store_with.Goals as goal
 

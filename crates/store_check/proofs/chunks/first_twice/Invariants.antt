@@ -1,5 +1,5 @@
-use Rattle.std.proofs.Common.{ℕ, ◌<◌}
-use Rattle.store_check.specs.Naming.{IsMarkedTwice}
+-- The loop of `first_twice` keeps its invariant: no mark before this number is 2.
+use Rattle.store_check.proofs.Terms.{ℕ, ◌<◌, IsMarkedTwice}
 use Rattle.store_check.proofs.chunks.first_twice.Given as goal
 
 abbrev pub invariant-loop-number : goal.invariant-loop-number

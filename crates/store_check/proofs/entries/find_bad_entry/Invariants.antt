@@ -1,7 +1,6 @@
-use Rattle.std.proofs.Common.{ℕ, ◌<◌}
-use Rattle.store_check.specs.Faults.{IsBadEntry}
-use Rattle.store_check.specs.Naming.{AddsMarks}
-use Rattle.store_check.proofs.UseLaws.{named_below}
+-- The loop of `find_bad_entry` keeps its invariant: no entry of the databases before this one is
+-- bad, and the slots that they name are marked.
+use Rattle.store_check.proofs.Lemmas.{ℕ, ◌<◌, IsBadEntry, AddsMarks, named_below}
 use Rattle.store_check.proofs.entries.find_bad_entry.Given as goal
 
 abbrev pub invariant-loop-db : goal.invariant-loop-db

@@ -1,3 +1,5 @@
+-- The loop of `find_bad_id_among` keeps its invariant: the set has the IDs before the index, of
+-- which none is bad.
 use Rattle.store_check.proofs.IdLaws.{Walked}
 use Rattle.store_check.proofs.ids.find_bad_id_among.Given as goal
 

@@ -1,3 +1,5 @@
+-- The loop of `has_rising_ids` keeps its invariant: the IDs before the index rise up to the last
+-- one.
 use Rattle.store_check.proofs.IdLaws.{Risen}
 use Rattle.store_check.proofs.ids.has_rising_ids.Given as goal
 

@@ -1,6 +1,5 @@
-use Rattle.std.proofs.Common.{ℕ, ◌<◌}
-use Rattle.heap_model.specs.Database.{HasName}
-use Rattle.store_check.specs.Listing.{header_at}
+-- The loop of `find_bad_name` keeps its invariant: each database before this one has a name.
+use Rattle.store_check.proofs.Terms.{ℕ, ◌<◌, HasName, header_at}
 use Rattle.store_check.proofs.names.find_bad_name.Given as goal
 
 abbrev pub invariant-loop-db : goal.invariant-loop-db

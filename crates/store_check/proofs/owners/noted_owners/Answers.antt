@@ -1,3 +1,4 @@
+-- `noted_owners` makes room for the owners of all slots, by the laws of heap_check.
 use Rattle.std.proofs.Common.{length, ap, arith}
 use Rattle.store_check.proofs.owners.noted_owners.Goals as goal
 

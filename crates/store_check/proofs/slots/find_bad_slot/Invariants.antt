@@ -1,3 +1,4 @@
+-- The loop of `find_bad_slot` keeps its invariant: the words before the index are good, and marked.
 use Rattle.store_check.proofs.SlotLaws.{SlotsSoFar}
 use Rattle.store_check.proofs.slots.find_bad_slot.Given as goal
 

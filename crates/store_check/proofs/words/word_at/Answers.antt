@@ -1,3 +1,4 @@
+-- `word_at` returns the word with an index, by the laws of db_format.
 use Rattle.std.proofs.Common.{◌*◌}
 use Rattle.db_format.proofs.WordLaws.{u32_at_part}
 use Rattle.store_check.proofs.words.word_at.Goals as goal
