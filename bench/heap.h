@@ -79,13 +79,14 @@ struct row {
 };
 
 /* An image that is an accepted heap. The slots of all numbers below `lowest` are in use. The last slot was given in
- * the `row`. The slot `freed` is a further table's that was freed last, or 0. The bytes of the chunk `lent` are lent, or of
- * none if it is 0. A list begins at each head that isn't 0; all free chunks were in their lists when they were `built`. A
- * stretch was `packed` for the next chunk that is made. */
+ * the `row`. The slot `freed` is a further table's that was freed last, or 0. The bytes of so many chunks are `out`. Each has
+ * a bit in `marks`, one for 8 bytes of the image, which are allocated with the first. A list begins at each head that isn't
+ * 0; all free chunks were in their lists when they were `built`. A stretch was `packed` for the next chunk that is made. */
 struct heap {
     uint8_t *image;
     uint32_t len;
-    uint32_t lowest, freed, lent;
+    uint32_t lowest, freed, out;
+    uint8_t *marks;
     struct row row;
     uint32_t known[KNOWN + 1];
     uint32_t heads[CLASSES];

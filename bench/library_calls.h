@@ -122,8 +122,9 @@ static enum refusal heap_take_out(struct heap *heap, uint32_t name, uint8_t **by
     return refusal;
 }
 
-static void heap_put_back(struct heap *heap)
+static void heap_put_back(struct heap *heap, const uint8_t *bytes)
 {
+    (void)bytes;
     palmheap_put_back(&heap->store, &heap->loan);
 }
 
@@ -137,8 +138,9 @@ static void heap_take_out_many(struct heap *heap, const uint32_t *names, size_t 
             loans[i] = (palmheap_loan){0};
 }
 
-static void heap_put_back_many(struct heap *heap, size_t count)
+static void heap_put_back_many(struct heap *heap, const uint32_t *names, size_t count)
 {
+    (void)names;
     for (size_t i = 0; i < count; i++)
         if (loans[i].bytes != NULL)
             palmheap_put_back(&heap->store, &loans[i]);

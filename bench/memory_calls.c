@@ -55,10 +55,10 @@ static bool scatter(struct load *load, size_t count, struct scattered *scattered
 }
 
 /* Calls that walk through all chunks or move them. */
-enum walk { LARGEST_STRETCH, COMPACT, HANDLE_NEW, RESIZE_IN_PLACE, RESIZE_BY_MOVING, WALKS };
+enum walk { NOTHING, LARGEST_STRETCH, COMPACT, HANDLE_NEW, RESIZE_IN_PLACE, RESIZE_BY_MOVING, WALKS };
 
 static const char *const WALK_NAMES[WALKS] = {
-    "largest_stretch", "compact", "handle_new_by_packing", "resize_in_place", "resize_by_moving",
+    "nothing", "largest_stretch", "compact", "handle_new_by_packing", "resize_in_place", "resize_by_moving",
 };
 
 static size_t calls_of_walk(const struct scattered *scattered, enum walk walk)
@@ -105,6 +105,7 @@ static uint32_t resize_each(struct heap *heap, const struct scattered *scattered
 static uint32_t do_walk(struct heap *heap, const struct scattered *scattered, enum walk walk)
 {
     switch (walk) {
+    case NOTHING: return 0;
     case LARGEST_STRETCH: return heap_largest_stretch(heap);
     case COMPACT: return heap_compact(heap);
     case HANDLE_NEW: return make_large(heap);
@@ -123,7 +124,7 @@ static bool time_walks(const struct scattered *scattered, const struct work *wor
     struct heap heap = {.image = malloc(scattered->heap.len), .len = scattered->heap.len};
     if (heap.image == NULL)
         return false;
-    for (enum walk walk = LARGEST_STRETCH; walk < WALKS; walk++) {
+    for (enum walk walk = NOTHING; walk < WALKS; walk++) {
         for (size_t i = 0; i < work->rounds; i++) {
             if (!copy_heap(&heap, &scattered->heap))
                 return false;

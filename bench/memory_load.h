@@ -179,7 +179,7 @@ static __attribute__((noinline)) void take_out_and_put_back(struct load *load)
         }
         add(&replies, bytes[0]);
         add(&replies, bytes[length - 1]);
-        heap_put_back(&load->heap);
+        heap_put_back(&load->heap, bytes);
     }
     load->replies = replies;
 }
@@ -207,7 +207,7 @@ static void repeat(struct load *load, enum call call, uint32_t passes)
         default: take_out_and_put_back(load); break;
         }
     }
-    heap_put_back_many(&load->heap, out);
+    heap_put_back_many(&load->heap, load->wide, out);
 }
 
 /* How many calls a pass of this kind has. */

@@ -47,13 +47,19 @@ static bool reaches_beyond(uint32_t at, uint32_t count, uint32_t length)
     return count > length || at > length - count;
 }
 
+/* Whether the bytes of the chunk at a place are out. */
+static bool is_out(const struct heap *heap, size_t place)
+{
+    return heap->out != 0 && (heap->marks[place / 64] >> place / 8 % 8 & 1) != 0;
+}
+
 static enum refusal heap_read(const struct heap *heap, uint32_t name, uint32_t at, uint32_t count,
                               const uint8_t **bytes)
 {
     struct found found;
     if (!find(heap, name, &found))
         return INVALID_HANDLE;
-    if (heap->lent == name)
+    if (is_out(heap, found.place))
         return LENT;
     if (reaches_beyond(at, count, found.length))
         return OUT_OF_BOUNDS;
@@ -69,7 +75,7 @@ static enum refusal heap_write(struct heap *heap, uint32_t name, uint32_t at, co
         return INVALID_HANDLE;
     if (found.lock == 0)
         return CHUNK_NOT_LOCKED;
-    if (heap->lent == name)
+    if (is_out(heap, found.place))
         return LENT;
     if (reaches_beyond(at, count, found.length))
         return OUT_OF_BOUNDS;
@@ -103,44 +109,61 @@ static enum refusal heap_unlock(struct heap *heap, uint32_t name, uint32_t *coun
         return INVALID_HANDLE;
     if (found.lock == 0)
         return CHUNK_NOT_LOCKED;
-    if (heap->lent == name)
+    if (is_out(heap, found.place))
         return LENT;
     relock(heap, found.place, found.lock - 1);
     *count = found.lock - 1;
     return DONE;
 }
 
-/* Lends the bytes of a locked chunk. */
-static enum refusal heap_take_out(struct heap *heap, uint32_t name, uint8_t **bytes,
-                                  uint32_t *length)
+/* Lends the bytes of a locked chunk. Those of others may be out. */
+static enum refusal heap_take_out_also(struct heap *heap, uint32_t name, uint8_t **bytes, uint32_t *length)
 {
     struct found found;
     if (!find(heap, name, &found))
         return INVALID_HANDLE;
     if (found.lock == 0)
         return CHUNK_NOT_LOCKED;
-    if (heap->lent != 0)
+    if (is_out(heap, found.place))
         return LENT;
-    heap->lent = name;
+    if (heap->marks == NULL && (heap->marks = calloc(heap->len / 64 + 1, 1)) == NULL)
+        return NOT_ENOUGH_SPACE;
+    heap->marks[found.place / 64] |= 1 << found.place / 8 % 8;
+    heap->out++;
     *bytes = heap->image + found.place;
     *length = found.length;
     return DONE;
 }
 
-static void heap_put_back(struct heap *heap)
+/* Lends the bytes of a locked chunk, if nothing is out. */
+static enum refusal heap_take_out(struct heap *heap, uint32_t name, uint8_t **bytes, uint32_t *length)
 {
-    heap->lent = 0;
+    if (heap->out != 0)
+        return LENT;
+    return heap_take_out_also(heap, name, bytes, length);
 }
 
-/* Plain C lends one chunk at a time. So nothing is out here while other chunks are read. */
+static void heap_put_back(struct heap *heap, const uint8_t *bytes)
+{
+    size_t place = bytes - heap->image;
+    heap->marks[place / 64] &= ~(1 << place / 8 % 8);
+    heap->out--;
+}
+
 static void heap_take_out_many(struct heap *heap, const uint32_t *names, size_t count)
 {
-    (void)heap, (void)names, (void)count;
+    uint8_t *bytes;
+    uint32_t length;
+    for (size_t i = 0; i < count; i++)
+        heap_take_out_also(heap, names[i], &bytes, &length);
 }
 
-static void heap_put_back_many(struct heap *heap, size_t count)
+static void heap_put_back_many(struct heap *heap, const uint32_t *names, size_t count)
 {
-    (void)heap, (void)count;
+    struct found found;
+    for (size_t i = 0; i < count; i++)
+        if (find(heap, names[i], &found))
+            heap_put_back(heap, heap->image + found.place);
 }
 
 static enum refusal heap_handle_new(struct heap *heap, uint32_t length, uint32_t owner,
@@ -208,6 +231,7 @@ static enum refusal heap_resize(struct heap *heap, uint32_t name, uint32_t lengt
 static bool copy_heap(struct heap *heap, const struct heap *from)
 {
     memcpy(heap->image, from->image, heap->len);
+    memset(heap->known, 0, sizeof heap->known);
     heap->lowest = 0;
     heap->packed = false;
     drop_lists(heap);

@@ -66,7 +66,8 @@ static CALLS: [(&str, Call); 8] = [
 ];
 
 /// The calls that walk through all chunks or move them, with the names that are printed.
-static WALKS: [(&str, Walk); 5] = [
+static WALKS: [(&str, Walk); 6] = [
+    ("nothing", Walk::Nothing),
     ("largest_stretch", Walk::LargestStretch),
     ("compact", Walk::Compact),
     ("handle_new_by_packing", Walk::HandleNew),

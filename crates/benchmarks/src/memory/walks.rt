@@ -14,10 +14,12 @@ const STRETCHES: usize = 64;
 /// The maximum number of chunks that are freed for one large one.
 const MOST_FREED: usize = 2000;
 
-/// Calls on a copy of a heap. The first five use a heap that is full but for every second chunk,
+/// Calls on a copy of a heap. The first six use a heap that is full but for every second chunk,
 /// the others one whose free chunks are all of one class.
 #[derive(Clone, Copy)]
 pub(crate) enum Walk {
+    /// No call: its time is that of a reading of the clock.
+    Nothing,
     LargestStretch,
     Compact,
     /// New chunks. For each of them one stretch of a parted heap is compacted.
@@ -98,6 +100,7 @@ impl Original {
     {
         let mut replies = Sum(0);
         match walk {
+            Walk::Nothing => {}
             Walk::LargestStretch => replies.add(heap.largest_stretch()),
             Walk::Compact => replies.add(heap.compact()),
             Walk::HandleNew => self.make_large(heap, &mut replies),
