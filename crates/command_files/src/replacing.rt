@@ -99,7 +99,24 @@ pub fn output_for_picture<'a, R: Files + Eprint + AllocGlobal>(
 ) -> Result<OutputFile<'a, R>, Status>
     ensures { IfErr result (λ status. (status ≡ Status.WriteFault) ⊎ (status ≡ Status.NoMemory)) }
 {
-    if is_image(rt, path) || is_database(rt, path) {
+    let is_image = is_image(rt, path);
+    let is_database = is_database(rt, path);
+    picture_unless(rt, path, is_image, is_database)
+}
+
+/// Returns a writer for a picture, unless the file at the path looks like a heap image, or like a
+/// PDB or PRC file. Reports that.
+fn picture_unless<'a, R: Files + Eprint + AllocGlobal>(
+    rt: &'a R,
+    path: &str,
+    is_image: bool,
+    is_database: bool,
+) -> Result<OutputFile<'a, R>, Status>
+    ensures kept { IsTrue (is_image || is_database) → result ≡ Err Status.WriteFault }
+    ensures replaced { (is_image || is_database) ≡ false
+        → IfErr result (λ status. status ≡ Status.NoMemory) }
+{
+    if is_image || is_database {
         let kept =
             "looks like a heap image, or a PDB or PRC file, and a picture doesn't replace it";
         return Err(fail_to_replace(rt, path, kept));
