@@ -106,7 +106,7 @@ pub slots_marked : (image marks : List ℕ) (index : ℕ) → length (directory_
 unfolding listed
 slots_marked image marks index all near g =
     subst (λ (n : ℕ). AreMarks (directory_of image ∷ numbered (listed_at image) n) marks)
-    (count index all _ g) g.marked where
+    (count index all near g) g.marked where
       count : (n : ℕ) → length (directory_bytes image) ≤ 4 * n
           → 4 * n < length (directory_bytes image) + 4 → SlotsSoFar image marks n
           → n ≡ listed_count image
