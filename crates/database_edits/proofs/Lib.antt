@@ -7,7 +7,7 @@ pub mod Lengths
 pub mod RemovedEntries
 pub mod InsertedEntries
 pub mod MovedEntries
-pub mod Crossed
+pub mod Parts
 pub mod Pieces
 pub mod HeadersHere
 pub mod RaisedNumbers

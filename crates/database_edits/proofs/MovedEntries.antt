@@ -1,239 +1,186 @@
--- An entry moved past others, as a list in pieces and in bytes.
-use Rattle.database_edits.proofs.Words.{◌≡◌, ℕ, suc, ◌+◌, ◌-◌, ◌*◌, ◌<◌, ◌≤◌, Bool, true, false, List, [], ◌∷◌, ◌++◌, length, get_or, take, drop, refl, sym, ap, ◌∙◌, append_assoc, arith, inl, inr, drop-cons, length-append, length-take, length-drop, take-append_seam, drop-append_seam, drop-append-add, get_or-append_right, take-append-drop, drop-drop, All-nil, All-cons, All-head, All-tail, cases_lt, All, insert, slice_range, flat_map, remove, overwritten, entry_size, Entry, entry_bytes, EntryFits, entry_offset, insertion_index, moved, insertion_behind, insertion_before, moved_is, length-entry_bytes, length-entries}
-use Rattle.std.proofs.lemmas.Grind.{flat_map-append}
-use Rattle.database_edits.proofs.Pieces.{piece_of, closes, opens}
+-- An entry moved: those past which it moves slide by one, and it is written on the other side of
+-- them.
+use Rattle.database_edits.proofs.Words.{◌≡◌, ℕ, suc, ◌+◌, ◌-◌, ◌<◌, ◌≤◌, Bool, List, [], ◌∷◌, ◌++◌, length, get_or, take, drop, refl, sym, ap, ◌∙◌, append_assoc, arith, inl, inr, length-append, length-take, append-nil, take_at, drop_at, cases_lt, slice_range, remove, overwritten, moved, insertion_index, insertion_behind, insertion_before, length-moved, Entry, a_record, Database, header_bytes, entry_bytes, spelled, entry_offset, entry_in, SpellsHere, Respells, database_here, bytes_under, entry_read, Rebodies, HasKindHere, with_moved}
+use Rattle.std.proofs.lemmas.List.Edits.{between_more, between_none, length-between, split_between}
+use Rattle.std.specs.List.{insert_slice}
+use Rattle.database_edits.proofs.Chunks.{rebodied_as, stays, then_by}
+use Rattle.database_edits.proofs.Databases.{managers}
+use Rattle.database_edits.proofs.Entries.{slid}
+use Rattle.database_edits.proofs.Parts.{Parts, entries_bytes, four_parts, in_parts, slices_here}
+use Rattle.database_edits.proofs.Pieces.{closes, opens, piece_of}
 
 -- ---- lists
 
-removed_seam : {X : Type 0} (front : List X) (x : X) (rest : List X) → remove (front ++ x ∷ rest) (length front) ≡ front ++ rest
-removed_seam front x rest =
-    (let e : suc (length front) ≡ length front + 1 = omega arith in ap (λ (k : ℕ). take (length front) (front ++ x ∷ rest) ++ drop k (front ++ x ∷ rest)) e)
-    ∙ ap (λ (xs : List _). xs ++ drop (length front + 1) (front ++ x ∷ rest)) (take-append_seam front (x ∷ rest))
-    ∙ ap (λ (xs : List _). front ++ xs) (drop-append-add front (x ∷ rest) 1)
+put_between : {X : Type 0} (front new back : List X) (at : ℕ) → at ≡ length front
+    → insert_slice (front ++ back) at new ≡ front ++ (new ++ back)
+put_between front new back at is =
+    rw (take_at front back at (sym is), drop_at front back at (sym is)) (append_assoc front new back)
 
-inserted_seam : {X : Type 0} (front : List X) (x : X) (rest : List X) → insert (front ++ rest) (length front) x ≡ front ++ x ∷ rest
-inserted_seam front x rest =
-    ap (λ (xs : List _). xs ++ x ∷ drop (length front) (front ++ rest)) (take-append_seam front rest)
-    ∙ ap (λ (xs : List _). front ++ x ∷ xs) (drop-append_seam front rest)
+taken_out : {X : Type 0} (front one back : List X) (at : ℕ) → at ≡ length front → length one ≡ 1
+    → remove (front ++ (one ++ back)) at ≡ front ++ back
+taken_out front one back at is len =
+    let both = length-append front one in
+    rw (take_at front (one ++ back) at (sym is))
+    (ap (λ (xs : List _). front ++ drop (suc at) xs) (sym (append_assoc front one back))
+    ∙ ap (λ (xs : List _). front ++ xs) (drop_at (front ++ one) back (suc at) (omega arith)))
 
-here : {X : Type 0} (front : List X) (x : X) (rest : List X) → get_or (front ++ x ∷ rest) (length front) x ≡ x
-here front x rest = get_or-append_right front (x ∷ rest) (length front) x (omega arith) ∙ (let none : length front - length front ≡ 0 = omega arith in ap (λ (k : ℕ). get_or (x ∷ rest) k x) none)
+-- an element is taken out, and put in elsewhere
+moved_as : {X : Type 0} (front one back before after : List X) (from to : ℕ) → from ≡ length front
+    → length one ≡ 1 → insertion_index from to ≡ length before → front ++ back ≡ before ++ after
+    → moved (front ++ (one ++ back)) from to ≡ before ++ (one ++ after)
+moved_as front one back before after from to is len index same =
+    let at : ℕ = insertion_index from to in
+    let all : List _ = front ++ (one ++ back) in
+    ap (insert_slice (remove all from) at) (piece_of front one back from (from + 1) is (omega arith))
+    ∙ ap (λ (xs : List _). insert_slice xs at one) (taken_out front one back from is len ∙ same)
+    ∙ put_between before one after at index
 
--- an element moves to the back, past some
-pub moved_back : {X : Type 0} (front : List X) (x : X) (past back : List X) (from to : ℕ) → from ≡ length front → to ≡ from + 1 + length past → 0 < length past → moved (front ++ x ∷ (past ++ back)) from to ≡ front ++ (past ++ x ∷ back)
-moved_back front x past back from to from_is to_is some =
-    let all : List _ = front ++ x ∷ (past ++ back) in
-    let whole = length-append front (x ∷ (past ++ back)) in
+pub moved_back : {X : Type 0} (xs : List X) (from to : ℕ) → from + 1 < to → to ≤ length xs
+    → moved xs from to ≡ take from xs ++ (slice_range xs (from + 1) to
+    ++ (slice_range xs from (from + 1) ++ drop to xs))
+moved_back xs from to less inside =
+    let front : List _ = take from xs in
+    let one : List _ = slice_range xs from (from + 1) in
+    let past : List _ = slice_range xs (from + 1) to in
+    let front_size = length-take from xs in
+    let past_size = length-between xs (from + 1) to inside in
     let both = length-append front past in
-    let index : insertion_index from to ≡ length (front ++ past) = insertion_behind from to (omega arith) ∙ (let e : to - 1 ≡ length (front ++ past) = omega arith in e) in
-    moved_is all from to x (omega arith)
-    ∙ ap (λ (k : ℕ). insert (remove all from) k (get_or all from x)) index
-    ∙ ap (λ (k : ℕ). insert (remove all k) (length (front ++ past)) (get_or all k x)) from_is
-    ∙ ap (λ (y : _). insert (remove all (length front)) (length (front ++ past)) y) (here front x (past ++ back))
-    ∙ ap (λ (xs : List _). insert xs (length (front ++ past)) x) (removed_seam front x (past ++ back) ∙ sym (append_assoc front past back))
-    ∙ inserted_seam (front ++ past) x back
-    ∙ append_assoc front past (x ∷ back)
+    let index = insertion_behind from to (omega arith) in
+    ap (λ (ys : List _). moved ys from to)
+    (in_parts xs from (from + 1) to (omega arith) (omega arith))
+    ∙ moved_as front one (past ++ drop to xs) (front ++ past) (drop to xs) from to (omega arith)
+    (length-between xs from (from + 1) (omega arith) ∙ omega arith) (omega arith)
+    (sym (append_assoc front past (drop to xs)))
+    ∙ append_assoc front past (one ++ drop to xs)
 
--- an element moves to the front, past some
-pub moved_front : {X : Type 0} (front : List X) (x : X) (past back : List X) (from to : ℕ) → to ≡ length front → from ≡ to + length past → moved (front ++ (past ++ x ∷ back)) from to ≡ front ++ x ∷ (past ++ back)
-moved_front front x past back from to to_is from_is =
-    let all : List _ = front ++ (past ++ x ∷ back) in
-    let other : List _ = (front ++ past) ++ x ∷ back in
-    let same : all ≡ other = sym (append_assoc front past (x ∷ back)) in
+pub moved_front : {X : Type 0} (xs : List X) (from to : ℕ) → to < from → from < length xs
+    → moved xs from to ≡ take to xs ++ (slice_range xs from (from + 1)
+    ++ (slice_range xs to from ++ drop (from + 1) xs))
+moved_front xs from to less inside =
+    let front : List _ = take to xs in
+    let one : List _ = slice_range xs from (from + 1) in
+    let past : List _ = slice_range xs to from in
+    let back : List _ = drop (from + 1) xs in
+    let front_size = length-take to xs in
+    let past_size = length-between xs to from (omega arith) in
     let both = length-append front past in
-    let whole = length-append (front ++ past) (x ∷ back) in
-    let index : insertion_index from to ≡ length front = insertion_before from to (omega arith) ∙ to_is in
-    let from_all : from ≡ length (front ++ past) = omega arith in
-    ap (λ (xs : List _). moved xs from to) same
-    ∙ moved_is other from to x (omega arith)
-    ∙ ap (λ (k : ℕ). insert (remove other from) k (get_or other from x)) index
-    ∙ ap (λ (k : ℕ). insert (remove other k) (length front) (get_or other k x)) from_all
-    ∙ ap (λ (y : _). insert (remove other (length (front ++ past))) (length front) y) (here (front ++ past) x back)
-    ∙ ap (λ (xs : List _). insert xs (length front) x) (removed_seam (front ++ past) x back ∙ append_assoc front past back)
-    ∙ inserted_seam front x (past ++ back)
+    let index = insertion_before from to (omega arith) in
+    ap (λ (ys : List _). moved ys from to)
+    (in_parts xs to from (from + 1) (omega arith) (omega arith)
+    ∙ sym (append_assoc front past (one ++ back)))
+    ∙ moved_as (front ++ past) one back front (past ++ back) from to (omega arith)
+    (length-between xs from (from + 1) (omega arith) ∙ omega arith) (omega arith)
+    (append_assoc front past back)
 
--- an element that is put in where it stood stays there
-pub moved_nowhere : {X : Type 0} (front : List X) (x : X) (rest : List X) (from to : ℕ) → from ≡ length front → from ≤ to → to ≤ from + 1 → moved (front ++ x ∷ rest) from to ≡ front ++ x ∷ rest
-moved_nowhere front x rest from to from_is low high =
-    let all : List _ = front ++ x ∷ rest in
-    let whole = length-append front (x ∷ rest) in
-    let index : insertion_index from to ≡ length front = elim (cases_lt from to) [
-      | inl less ↦ insertion_behind from to less ∙ (let e : to - 1 ≡ length front = omega arith in e)
-      | inr le ↦ insertion_before from to le ∙ (let e : to ≡ length front = omega arith in e)
+-- it stays if it is put in where it was
+pub moved_nowhere : {X : Type 0} (xs : List X) (from to : ℕ) → from < length xs → from ≤ to
+    → to ≤ from + 1 → moved xs from to ≡ xs
+moved_nowhere xs from to inside low high =
+    let front : List _ = take from xs in
+    let back : List _ = drop (from + 1) xs in
+    let front_size = length-take from xs in
+    let index : insertion_index from to ≡ from = elim (cases_lt from to) [
+      | inl less ↦ insertion_behind from to less ∙ omega arith
+      | inr le ↦ insertion_before from to le ∙ omega arith
     ] in
-    moved_is all from to x (omega arith)
-    ∙ ap (λ (k : ℕ). insert (remove all from) k (get_or all from x)) index
-    ∙ ap (λ (k : ℕ). insert (remove all k) (length front) (get_or all k x)) from_is
-    ∙ ap (λ (y : _). insert (remove all (length front)) (length front) y) (here front x rest)
-    ∙ ap (λ (xs : List _). insert xs (length front) x) (removed_seam front x rest)
-    ∙ inserted_seam front x rest
+    let pieces = split_between xs from (from + 1) (omega arith) in
+    ap (λ (ys : List _). moved ys from to) pieces
+    ∙ moved_as front _ back front back from to (omega arith)
+    (length-between xs from (from + 1) (omega arith) ∙ omega arith) (omega arith) refl
+    ∙ sym pieces
 
--- ---- in bytes
+-- ---- the bytes of a database
 
-all_front : (r : Bool) (front back : List (Entry ℕ)) → All (EntryFits r) (front ++ back) → All (EntryFits r) front
-all_front r [] back all = All-nil (EntryFits r)
-all_front r (e ∷ front) back all = All-cons (EntryFits r) e front (All-head (EntryFits r) e (front ++ back) all) (all_front r front back (All-tail (EntryFits r) e (front ++ back) all))
+-- the entry that was read is the one at the index
+entry_there : {image : List ℕ} {db : ℕ} (from : ℕ) (x : Entry ℕ) → SpellsHere image db
+    → from < length (database_here image db).entries → x ≡ entry_in (bytes_under image db) from
+    → entries_bytes (slice_range (database_here image db).entries from (from + 1)) ≡ entry_bytes x
+entry_there {image} {db} from x s inside is =
+    let es : List (Entry ℕ) = (database_here image db).entries in
+    let read = is ∙ ap (λ (bytes : List ℕ). entry_in bytes from) s.spelled.bytes_are
+    ∙ entry_read (database_here image db) from (a_record 0 0 0) s.spelled.fits inside in
+    ap entries_bytes (between_more es from from (a_record 0 0 0) (omega arith) inside
+    ∙ ap (λ (xs : List (Entry ℕ)). xs ++ get_or es from (a_record 0 0 0) ∷ []) (between_none es from))
+    ∙ append-nil (entry_bytes (get_or es from (a_record 0 0 0))) ∙ ap entry_bytes (sym read)
 
-all_back : (r : Bool) (front back : List (Entry ℕ)) → All (EntryFits r) (front ++ back) → All (EntryFits r) back
-all_back r [] back all = all
-all_back r (e ∷ front) back all = all_back r front back (All-tail (EntryFits r) e (front ++ back) all)
+-- the four parts of the entries in their new order
+moved_bytes : {r : Bool} {d : Database ℕ} {body : List ℕ} {a b c e : List (Entry ℕ)} {i j k : ℕ}
+    (from to : ℕ) → Parts r d body a b c e i j k → from < length d.entries
+    → to ≤ length d.entries → moved d.entries from to ≡ a ++ (c ++ (b ++ e))
+    → (header_bytes d ++ entries_bytes a)
+    ++ (entries_bytes c ++ (entries_bytes b ++ entries_bytes e))
+    ≡ spelled (with_moved from to d)
+unfolding spelled header_bytes
+moved_bytes {d = d} {a = a} {b} {c} {e} from to p inside most order =
+    append_assoc (header_bytes d) (entries_bytes a) _
+    ∙ ap (λ (xs : List ℕ). header_bytes d ++ xs) (sym (four_parts a c b e))
+    ∙ rw (length-moved d.entries from to inside most)
+    (ap (λ (es : List (Entry ℕ)). header_bytes d ++ entries_bytes es) (sym order))
 
--- the bytes of entries
-abbrev pub bytes_of : List (Entry ℕ) → List ℕ
-bytes_of entries = flat_map entry_bytes entries
+-- the second part slides to the front over the first, which is written after it
+closed : {r : Bool} {d : Database ℕ} {body : List ℕ} {front first second back : List (Entry ℕ)}
+    {i j k : ℕ} {e : List ℕ} (to : ℕ) → Parts r d body front first second back i j k
+    → entries_bytes first ≡ e → to ≡ i + length second
+    → overwritten (slid r j k i body) (entry_offset r to) e
+    ≡ (header_bytes d ++ entries_bytes front)
+    ++ (entries_bytes second ++ (entries_bytes first ++ entries_bytes back))
+closed {r} {d} {front = front} {first} {second} {back} {i} {j} {k} to p one is = rw (← one, p.is)
+    (closes (header_bytes d ++ entries_bytes front) (entries_bytes first) (entries_bytes second)
+    (entries_bytes back) (entry_offset r i) (entry_offset r j) (entry_offset r k)
+    (entry_offset r to) p.at p.next p.end (p.slid to is))
 
-in_pieces : (front past back : List (Entry ℕ)) (x : Entry ℕ) → bytes_of (front ++ x ∷ (past ++ back)) ≡ bytes_of front ++ (entry_bytes x ++ (bytes_of past ++ bytes_of back))
-in_pieces front past back x =
-    flat_map-append entry_bytes front (x ∷ (past ++ back))
-    ∙ ap (λ (xs : List ℕ). flat_map entry_bytes front ++ (entry_bytes x ++ xs)) (flat_map-append entry_bytes past back)
+-- the first part slides to the back over the second, which is written before it
+opened : {r : Bool} {d : Database ℕ} {body : List ℕ} {front first second back : List (Entry ℕ)}
+    {i j k : ℕ} {e : List ℕ} (to : ℕ) → Parts r d body front first second back i j k
+    → entries_bytes second ≡ e → to ≡ i + length second
+    → overwritten (slid r i j to body) (entry_offset r i) e
+    ≡ (header_bytes d ++ entries_bytes front)
+    ++ (entries_bytes second ++ (entries_bytes first ++ entries_bytes back))
+opened {r} {d} {front = front} {first} {second} {back} {i} {j} to p one is = rw (← one, p.is)
+    (opens (header_bytes d ++ entries_bytes front) (entries_bytes first) (entries_bytes second)
+    (entries_bytes back) (entries_bytes second) (entry_offset r i) (entry_offset r j)
+    (entry_offset r to) p.at p.next (p.slid to is) refl)
 
-in_others : (front past back : List (Entry ℕ)) (x : Entry ℕ) → bytes_of (front ++ (past ++ x ∷ back)) ≡ bytes_of front ++ (bytes_of past ++ (entry_bytes x ++ bytes_of back))
-in_others front past back x =
-    flat_map-append entry_bytes front (past ++ x ∷ back)
-    ∙ ap (λ (xs : List ℕ). flat_map entry_bytes front ++ xs) (flat_map-append entry_bytes past (x ∷ back))
+-- ---- the chunk afterwards
 
--- how many bytes there are, in front of an entry, of it, and of those past which it moves
-pub record Sizes (r : Bool) (front past : List (Entry ℕ)) (x : Entry ℕ) : Type 0 where
-  pub front_size : length (bytes_of front) ≡ entry_size r * length front
-  pub one_size : length (entry_bytes x) ≡ entry_size r
-  pub past_size : length (bytes_of past) ≡ entry_size r * length past
+pub went_back : {old mid new : List ℕ} {db : ℕ} {resources : Bool} (from to : ℕ) (x : Entry ℕ)
+    → SpellsHere old db → HasKindHere old db resources → from + 1 < to
+    → to ≤ length (database_here old db).entries → x ≡ entry_in (bytes_under old db) from
+    → Rebodies old mid db (slid resources (from + 1) to from (bytes_under old db))
+    → Rebodies mid new db
+    (overwritten (bytes_under mid db) (entry_offset resources (to - 1)) (entry_bytes x))
+    → Respells old new db (with_moved from to (database_here old db))
+went_back {old} {db = db} {resources} from to x s kind less inside is slides writes =
+    let d : Database ℕ = database_here old db in
+    let p = slices_here from (from + 1) to s kind (omega arith) (omega arith) inside in
+    let past = length-between d.entries (from + 1) to inside in
+    let bytes = closed (to - 1) p (entry_there from x s (omega arith) is) (omega arith)
+    ∙ moved_bytes from to p (omega arith) inside
+    (moved_back d.entries from to less inside) in
+    (rebodied_as bytes (then_by (λ xs. overwritten xs (entry_offset resources (to - 1))
+    (entry_bytes x)) (managers old db s) slides writes)).leaves
 
-sizes_back : (r : Bool) (front past back : List (Entry ℕ)) (x : Entry ℕ) → All (EntryFits r) (front ++ x ∷ (past ++ back)) → Sizes r front past x
-sizes_back r front past back x all =
-    let rest = all_back r front (x ∷ (past ++ back)) all in
-    record {
-      front_size = length-entries r front (all_front r front (x ∷ (past ++ back)) all);
-      one_size = length-entry_bytes r x (All-head (EntryFits r) x (past ++ back) rest);
-      past_size = length-entries r past (all_front r past back (All-tail (EntryFits r) x (past ++ back) rest));
-    }
+pub went_front : {old mid new : List ℕ} {db : ℕ} {resources : Bool} (from to : ℕ) (x : Entry ℕ)
+    → SpellsHere old db → HasKindHere old db resources → to < from
+    → from < length (database_here old db).entries → x ≡ entry_in (bytes_under old db) from
+    → Rebodies old mid db (slid resources to from (to + 1) (bytes_under old db))
+    → Rebodies mid new db
+    (overwritten (bytes_under mid db) (entry_offset resources to) (entry_bytes x))
+    → Respells old new db (with_moved from to (database_here old db))
+went_front {old} {db = db} {resources} from to x s kind less inside is slides writes =
+    let d : Database ℕ = database_here old db in
+    let p = slices_here to from (from + 1) s kind (omega arith) (omega arith) (omega arith) in
+    let one = length-between d.entries from (from + 1) (omega arith) in
+    let bytes = opened (to + 1) p (entry_there from x s inside is) (omega arith)
+    ∙ moved_bytes from to p inside (omega arith)
+    (moved_front d.entries from to less inside) in
+    (rebodied_as bytes (then_by (λ xs. overwritten xs (entry_offset resources to) (entry_bytes x))
+    (managers old db s) slides writes)).leaves
 
-sizes_front : (r : Bool) (front past back : List (Entry ℕ)) (x : Entry ℕ) → All (EntryFits r) (front ++ (past ++ x ∷ back)) → Sizes r front past x
-sizes_front r front past back x all =
-    let rest = all_back r front (past ++ x ∷ back) all in
-    record {
-      front_size = length-entries r front (all_front r front (past ++ x ∷ back) all);
-      one_size = length-entry_bytes r x (All-head (EntryFits r) x back (all_back r past (x ∷ back) rest));
-      past_size = length-entries r past (all_front r past (x ∷ back) rest);
-    }
-
--- the offsets of the pieces
-pub record Offsets (r : Bool) (header : List ℕ) (front past : List (Entry ℕ)) : Type 0 where
-  pub at : entry_offset r (length front) ≡ length (header ++ bytes_of front)
-  pub next : entry_offset r (length front + 1) ≡ length (header ++ bytes_of front) + entry_size r
-  pub behind : entry_offset r (length front + length past) ≡ length (header ++ bytes_of front) + length (bytes_of past)
-  pub end : entry_offset r (length front + 1 + length past) ≡ length (header ++ bytes_of front) + entry_size r + length (bytes_of past)
-
-pub offsets : (r : Bool) (header : List ℕ) (front past : List (Entry ℕ)) → length header ≡ 78 → length (bytes_of front) ≡ entry_size r * length front → length (bytes_of past) ≡ entry_size r * length past → Offsets r header front past
-offsets true header front past len one two = (let both = length-append header (bytes_of front) in record { at = omega arith; next = omega arith; behind = omega arith; end = omega arith })
-offsets false header front past len one two = (let both = length-append header (bytes_of front) in record { at = omega arith; next = omega arith; behind = omega arith; end = omega arith })
-
-pub crossed_back : (r : Bool) (header : List ℕ) (front past back : List (Entry ℕ)) (x : Entry ℕ) → length header ≡ 78 → All (EntryFits r) (front ++ x ∷ (past ++ back))
-    → overwritten (overwritten (header ++ bytes_of (front ++ x ∷ (past ++ back))) (entry_offset r (length front)) (slice_range (header ++ bytes_of (front ++ x ∷ (past ++ back))) (entry_offset r (length front + 1)) (entry_offset r (length front + 1 + length past))))
-    (entry_offset r (length front + length past)) (entry_bytes x)
-    ≡ header ++ bytes_of (front ++ (past ++ x ∷ back))
-crossed_back r header front past back x len all =
-    let s = sizes_back r front past back x all in
-    let o = offsets r header front past len s.front_size s.past_size in
-    let one = s.one_size in
-    let head : List ℕ = header ++ bytes_of front in
-    let ebs : List ℕ = entry_bytes x in
-    let pbs : List ℕ = bytes_of past in
-    let bbs : List ℕ = bytes_of back in
-    let body : header ++ bytes_of (front ++ x ∷ (past ++ back)) ≡ head ++ (ebs ++ (pbs ++ bbs)) = ap (λ (xs : List ℕ). header ++ xs) (in_pieces front past back x) ∙ sym (append_assoc header (bytes_of front) (ebs ++ (pbs ++ bbs))) in
-    let from : ℕ = entry_offset r (length front + 1) in
-    let end : ℕ = entry_offset r (length front + 1 + length past) in
-    let next = o.next in
-    let last = o.end in
-    let both = length-append head ebs in
-    let slid : slice_range (head ++ (ebs ++ (pbs ++ bbs))) from end ≡ pbs =
-    ap (λ (xs : List ℕ). slice_range xs from end) (sym (append_assoc head ebs (pbs ++ bbs))) ∙ piece_of (head ++ ebs) pbs bbs from end (omega (arith, next, both, one)) (omega (arith, last, both, one)) in
-    ap (λ (xs : List ℕ). overwritten (overwritten xs (entry_offset r (length front)) (slice_range xs from end)) (entry_offset r (length front + length past)) ebs) body
-    ∙ ap (λ (xs : List ℕ). overwritten (overwritten (head ++ (ebs ++ (pbs ++ bbs))) (entry_offset r (length front)) xs) (entry_offset r (length front + length past)) ebs) slid
-    ∙ closes head ebs pbs bbs ebs (entry_offset r (length front)) (entry_offset r (length front + length past)) o.at o.behind refl
-    ∙ append_assoc header (bytes_of front) (pbs ++ (ebs ++ bbs))
-    ∙ ap (λ (xs : List ℕ). header ++ xs) (sym (in_others front past back x))
-
-pub crossed_front : (r : Bool) (header : List ℕ) (front past back : List (Entry ℕ)) (x : Entry ℕ) → length header ≡ 78 → All (EntryFits r) (front ++ (past ++ x ∷ back))
-    → overwritten (overwritten (header ++ bytes_of (front ++ (past ++ x ∷ back))) (entry_offset r (length front + 1)) (slice_range (header ++ bytes_of (front ++ (past ++ x ∷ back))) (entry_offset r (length front)) (entry_offset r (length front + length past))))
-    (entry_offset r (length front)) (entry_bytes x)
-    ≡ header ++ bytes_of (front ++ x ∷ (past ++ back))
-crossed_front r header front past back x len all =
-    let s = sizes_front r front past back x all in
-    let o = offsets r header front past len s.front_size s.past_size in
-    let one = s.one_size in
-    let next = o.next in
-    let head : List ℕ = header ++ bytes_of front in
-    let ebs : List ℕ = entry_bytes x in
-    let pbs : List ℕ = bytes_of past in
-    let bbs : List ℕ = bytes_of back in
-    let body : header ++ bytes_of (front ++ (past ++ x ∷ back)) ≡ head ++ (pbs ++ (ebs ++ bbs)) = ap (λ (xs : List ℕ). header ++ xs) (in_others front past back x) ∙ sym (append_assoc header (bytes_of front) (pbs ++ (ebs ++ bbs))) in
-    let at : ℕ = entry_offset r (length front) in
-    let to : ℕ = entry_offset r (length front + 1) in
-    let end : ℕ = entry_offset r (length front + length past) in
-    let slid : slice_range (head ++ (pbs ++ (ebs ++ bbs))) at end ≡ pbs = piece_of head pbs (ebs ++ bbs) at end o.at o.behind in
-    ap (λ (xs : List ℕ). overwritten (overwritten xs to (slice_range xs at end)) at ebs) body
-    ∙ ap (λ (xs : List ℕ). overwritten (overwritten (head ++ (pbs ++ (ebs ++ bbs))) to xs) at ebs) slid
-    ∙ opens head pbs ebs bbs ebs at to o.at (omega (arith, next, one)) refl
-    ∙ append_assoc header (bytes_of front) (ebs ++ (pbs ++ bbs))
-    ∙ ap (λ (xs : List ℕ). header ++ xs) (sym (in_pieces front past back x))
-
--- ---- a list, cut where an entry moves
-
-pub record BackPieces (entries : List (Entry ℕ)) (x : Entry ℕ) (from to : ℕ) : Type 0 where
-  pub front : List (Entry ℕ)
-  pub past : List (Entry ℕ)
-  pub back : List (Entry ℕ)
-  pub pieces : entries ≡ front ++ x ∷ (past ++ back)
-  pub at : from ≡ length front
-  pub end : to ≡ length front + 1 + length past
-
-pub cut_back : (entries : List (Entry ℕ)) (x d : Entry ℕ) (from to : ℕ) → x ≡ get_or entries from d → from + 1 ≤ to → to ≤ length entries → BackPieces entries x from to
-cut_back entries x d from to is less inside =
-    let front_size = length-take from entries in
-    let back_size = length-drop (from + 1) entries in
-    let past_size = length-take (to - (from + 1)) (drop (from + 1) entries) in
-    let sum : from + 1 + (to - (from + 1)) ≡ to = omega arith in
-    let one : suc from ≡ from + 1 = omega arith in
-    let rest : drop (from + 1) entries ≡ take (to - (from + 1)) (drop (from + 1) entries) ++ drop to entries =
-    sym (take-append-drop (to - (from + 1)) (drop (from + 1) entries))
-    ∙ ap (λ (xs : List (Entry ℕ)). take (to - (from + 1)) (drop (from + 1) entries) ++ xs) (drop-drop (to - (from + 1)) (from + 1) entries ∙ ap (λ (k : ℕ). drop k entries) sum) in
-    record {
-      front = take from entries;
-      past = take (to - (from + 1)) (drop (from + 1) entries);
-      back = drop to entries;
-      pieces = sym (take-append-drop from entries)
-          ∙ ap (λ (xs : List (Entry ℕ)). take from entries ++ xs)
-          (drop-cons entries from d (omega arith)
-          ∙ ap (λ (e : Entry ℕ). e ∷ drop (suc from) entries) (sym is)
-          ∙ ap (λ (k : ℕ). x ∷ drop k entries) one ∙ ap (λ (xs : List (Entry ℕ)). x ∷ xs) rest);
-      at = omega arith;
-      end = omega arith;
-    }
-
-pub record FrontPieces (entries : List (Entry ℕ)) (x : Entry ℕ) (from to : ℕ) : Type 0 where
-  pub front : List (Entry ℕ)
-  pub past : List (Entry ℕ)
-  pub back : List (Entry ℕ)
-  pub pieces : entries ≡ front ++ (past ++ x ∷ back)
-  pub at : to ≡ length front
-  pub end : from ≡ length front + length past
-
-pub cut_front : (entries : List (Entry ℕ)) (x d : Entry ℕ) (from to : ℕ) → x ≡ get_or entries from d → to ≤ from → from < length entries → FrontPieces entries x from to
-cut_front entries x d from to is less inside =
-    let front_size = length-take to entries in
-    let back_size = length-drop to entries in
-    let past_size = length-take (from - to) (drop to entries) in
-    let sum : to + (from - to) ≡ from = omega arith in
-    let rest : drop to entries ≡ take (from - to) (drop to entries) ++ drop from entries =
-    sym (take-append-drop (from - to) (drop to entries)) ∙ ap (λ (xs : List (Entry ℕ)). take (from - to) (drop to entries) ++ xs) (drop-drop (from - to) to entries ∙ ap (λ (k : ℕ). drop k entries) sum) in
-    record {
-      front = take to entries;
-      past = take (from - to) (drop to entries);
-      back = drop (suc from) entries;
-      pieces = sym (take-append-drop to entries)
-          ∙ ap (λ (xs : List (Entry ℕ)). take to entries ++ xs)
-          (rest
-          ∙ ap (λ (xs : List (Entry ℕ)). take (from - to) (drop to entries) ++ xs) (drop-cons entries from d inside ∙ ap (λ (e : Entry ℕ). e ∷ drop (suc from) entries) (sym is)));
-      at = omega arith;
-      end = omega arith;
-    }
+pub went_nowhere : {image : List ℕ} {db : ℕ} (from to : ℕ) → SpellsHere image db
+    → from < length (database_here image db).entries → from ≤ to → to ≤ from + 1
+    → Respells image image db (with_moved from to (database_here image db))
+went_nowhere {image} {db} from to s inside low high =
+    (stays (managers image db s) (s.spelled.bytes_are
+    ∙ ap (λ (es : List (Entry ℕ)). spelled (record (database_here image db) { entries = es }))
+    (sym (moved_nowhere (database_here image db).entries from to inside low high)))).leaves

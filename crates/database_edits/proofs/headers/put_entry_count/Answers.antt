@@ -3,11 +3,9 @@ use Rattle.database_edits.proofs.Laws.{arith, HasEntryCount, field_put, header_k
 use Rattle.database_edits.proofs.headers.put_entry_count.Goals as goal
 
 pub returns-clause-puts : goal.returns-clause-puts
-returns-clause-puts c =
-    field_put c.args.heap.now.bytes c.sys_write.new.self.bytes c.args.opened.db.0 76 c.entry_count_bytes-bytes.result (HasEntryCount c.args.count) c.requires.header.managers (omega arith) c.entry_count_bytes-bytes.ensures c.sys_write.ensures.leaves
+returns-clause-puts c = field_put 76 _ (HasEntryCount c.args.count) c.requires.header.managers
+    (omega arith) c.entry_count_bytes-bytes.ensures c.sys_write.ensures.leaves
 
 pub returns-clause-header : goal.returns-clause-header
-returns-clause-header c =
-    header_kept c.args.heap.now.bytes c.sys_write.new.self.bytes c.args.opened 76
-    c.entry_count_bytes-bytes.result c.requires.header (omega arith)
-    c.sys_write.ensures.stands c.sys_write.ensures.leaves
+returns-clause-header c = header_kept 76 c.entry_count_bytes-bytes.result c.requires.header
+    (omega arith) c.sys_write.ensures.stands c.sys_write.ensures.leaves
