@@ -62,15 +62,6 @@ pub written : {old new : List ℕ} {db : ℕ} (at : ℕ) (part : List ℕ) → I
     → Rebodies old new db (overwritten (bytes_under old db) at part)
 written at part m l = rebodied (λ bytes. overwritten bytes at part) m l
 
-pub resized : {old new : List ℕ} {db : ℕ} (size : ℕ) → IsManagers old db
-    → Leaves old new (sized (held old) db size)
-    → Rebodies old new db (sized_to (bytes_under old db) size)
-resized size m l = rebodied (λ bytes. sized_to bytes size) m l
-
-pub respelled : {old new : List ℕ} {db : ℕ} (database : Database ℕ) → IsManagers old db
-    → Respells old new db database → Rebodies old new db (spelled database)
-respelled database m r = rebodied (λ bytes. spelled database) m r
-
 -- nothing is changed, if these are its bytes
 pub stays : {image : List ℕ} {db : ℕ} {bytes : List ℕ} → IsManagers image db
     → bytes_under image db ≡ bytes → Rebodies image image db bytes

@@ -65,7 +65,7 @@ header_inserted {d = d} index entry h inside count_is seed_is is counts seeds ra
 
 -- ---- the bytes
 
-inserted_bytes : {old : List ℕ} {db : ℕ} {resources : Bool} (index size count : ℕ)
+pub inserted_bytes : {old : List ℕ} {db : ℕ} {resources : Bool} (index size count : ℕ)
     (entry : DbEntry) → SpellsHere old db → index ≤ length (database_here old db).entries
     → is_resource entry ≡ resources → HasKindHere old db resources
     → count ≡ length (database_here old db).entries → size ≡ entry_offset resources (count + 1)
@@ -111,23 +111,3 @@ inserted_bytes {old} {db} {resources} index size count entry s inside own_kind k
     ∙ over_piece [] (header_bytes d) (entries_bytes front ++ (e ++ (entries_bytes rest ++ []))) now 0
     refl same
     ∙ rw (append-nil (entries_bytes rest), flat_map-append entry_bytes front (entry_of entry ∷ rest))
-
-pub inserted : {old grown moved wrote new : List ℕ} {db : ℕ} {resources : Bool}
-    (index size count : ℕ) (entry : DbEntry) → SpellsHere old db
-    → index ≤ length (database_here old db).entries → is_resource entry ≡ resources
-    → HasKindHere old db resources → count ≡ length (database_here old db).entries
-    → size ≡ entry_offset resources (count + 1)
-    → Rebodies old grown db (sized_to (bytes_under old db) size)
-    → Rebodies grown moved db (slid resources index count (index + 1) (bytes_under grown db))
-    → Rebodies moved wrote db (overwritten (bytes_under moved db) (entry_offset resources index)
-    (entry_bytes (entry_of entry)))
-    → Headed wrote new db (entry_inserted index (entry_of entry) (database_here old db))
-    → Respells old new db (entry_inserted index (entry_of entry) (database_here old db))
-inserted {old} {db = db} {resources} index size count entry s inside own_kind kind count_is size_is grows slides writes h =
-    let e : List ℕ = entry_bytes (entry_of entry) in
-    let now : List ℕ = header_bytes (entry_inserted index (entry_of entry) (database_here old db)) in
-    let m = managers old db s in
-    (rebodied_as (inserted_bytes index size count entry s inside own_kind kind count_is size_is)
-    (then_by (λ xs. overwritten xs 0 now) m
-    (then_by (λ xs. overwritten xs (entry_offset resources index) e) m
-    (then_by (slid resources index count (index + 1)) m grows slides) writes) h.puts)).leaves

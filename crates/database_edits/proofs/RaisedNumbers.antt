@@ -1,6 +1,6 @@
 -- The modification number raised, and the database that a chunk spells after a call.
 use Rattle.database_edits.proofs.Words.{◌≡◌, ℕ, Bool, true, false, List, refl, sym, subst, Entry, Database, spelled, DatabaseFits, IsSpelled, SpellsHere, Respells, database_here, bytes_under, next_modification, database_read, with_entry, HasModificationNumber, Rebodies, PutsHeader, counted, counted_if, entry_written}
-use Rattle.database_edits.proofs.Chunks.{through, respelled}
+use Rattle.database_edits.proofs.Chunks.{rebodied, through}
 use Rattle.database_edits.proofs.Databases.{managers, counted_fits}
 use Rattle.database_edits.proofs.HeadersHere.{header_spelled, headed, then_raised, respelled_header}
 
@@ -31,21 +31,14 @@ pub respells_twice : {old mid new : List ℕ} {db : ℕ} (first second : Databas
     → SpellsHere old db → Respells old mid db first → Respells mid new db second
     → Respells old new db second
 respells_twice first second s a b =
-    let one = respelled first (managers _ _ s) a in
-    (through (managers _ _ s) one (respelled second one.managers b)).leaves
+    let one = rebodied (λ was. spelled first) (managers _ _ s) a in
+    (through (managers _ _ s) one (rebodied (λ was. spelled second) one.managers b)).leaves
 
 -- ---- the number raised, if that is asked, and then an entry written
 
-pub counted_entries : (counts : Bool) (d : Database ℕ) → (counted_if counts d).entries ≡ d.entries
-counted_entries true d = refl
-counted_entries false d = refl
-
-pub counted_attributes : (counts : Bool) (d : Database ℕ)
-    → (counted_if counts d).header.attributes ≡ d.header.attributes
-counted_attributes true d = refl
-counted_attributes false d = refl
-
-pub counted_entry : (counts : Bool) (index : ℕ) (entry : Entry ℕ) (d : Database ℕ)
-    → with_entry (counted_if counts d) index entry ≡ entry_written counts index entry d
-counted_entry true index entry d = refl
-counted_entry false index entry d = refl
+pub counted_same : (counts : Bool) (index : ℕ) (entry : Entry ℕ) (d : Database ℕ)
+    → ((counted_if counts d).entries ≡ d.entries)
+    × ((counted_if counts d).header.attributes ≡ d.header.attributes)
+    × (with_entry (counted_if counts d) index entry ≡ entry_written counts index entry d)
+counted_same true index entry d = (refl, refl, refl)
+counted_same false index entry d = (refl, refl, refl)

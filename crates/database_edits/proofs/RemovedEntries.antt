@@ -37,7 +37,7 @@ header_removed {old} {db = db} resources index count s slides inside left is cou
     (record { values = refl; app_info = refl; sort_info = refl; entries = omega arith }))) is raises
 
 -- the bytes afterwards
-removed_bytes : {old : List ℕ} {db : ℕ} {resources : Bool} (index left count : ℕ)
+pub removed_bytes : {old : List ℕ} {db : ℕ} {resources : Bool} (index left count : ℕ)
     → SpellsHere old db → HasKindHere old db resources
     → count ≡ length (database_here old db).entries → index + 1 ≤ count → left + 1 ≡ count
     → sized_to (overwritten (slid resources (index + 1) count index (bytes_under old db)) 0
@@ -82,17 +82,3 @@ removed_bytes {old} {db} {resources} index left count s kind count_is inside lef
     ∙ append_assoc now (entries_bytes front) (entries_bytes rest)
     ∙ ap (λ (xs : List ℕ). now ++ xs) (sym (flat_map-append entry_bytes front rest))
     ∙ ap (λ (n : ℕ). now ++ entries_bytes (front ++ drop n d.entries)) next
-
-pub removed : {old mid wrote new : List ℕ} {db : ℕ} {resources : Bool} (index left count : ℕ)
-    → SpellsHere old db → HasKindHere old db resources
-    → count ≡ length (database_here old db).entries → index + 1 ≤ count → left + 1 ≡ count
-    → Rebodies old mid db (slid resources (index + 1) count index (bytes_under old db))
-    → Headed mid wrote db (entry_removed index (database_here old db))
-    → Rebodies wrote new db (sized_to (bytes_under wrote db) (entry_offset resources left))
-    → Respells old new db (entry_removed index (database_here old db))
-removed {old} {db = db} {resources} index left count s kind count_is inside left_is slides h shrinks =
-    let now : List ℕ = header_bytes (entry_removed index (database_here old db)) in
-    let m = managers old db s in
-    (rebodied_as (removed_bytes index left count s kind count_is inside left_is)
-    (then_by (λ xs. sized_to xs (entry_offset resources left)) m
-    (then_by (λ xs. overwritten xs 0 now) m slides h.puts) shrinks)).leaves

@@ -1,6 +1,7 @@
 -- A chunk without a lock is never refused to shrink.
 use Rattle.std.proofs.lemmas.Result.{IfOk-at_ok}
-use Rattle.database_edits.proofs.Chunks.{resized}
+use Rattle.heap_model.specs.Bytes.{sized_to}
+use Rattle.database_edits.proofs.Chunks.{rebodied}
 use Rattle.database_edits.proofs.Lengths.{shrinks_ok}
 use Rattle.database_edits.proofs.bodies.shrink.Goals as goal
 
@@ -11,5 +12,5 @@ unwrap-requires c =
     c.requires.inside c.sys_resize.ensures.why
 
 pub returns-clause-shrinks : goal.returns-clause-shrinks
-returns-clause-shrinks c = resized c.args.size c.requires.managers
+returns-clause-shrinks c = rebodied (λ bytes. sized_to bytes c.args.size) c.requires.managers
     (IfOk-at_ok _ c.unwrap.ensures c.sys_resize.ensures.done)

@@ -1,7 +1,7 @@
 -- What follows the entry slides over it, the header is written field by field, and then the chunk
 -- shrinks.
-use Rattle.database_edits.proofs.Laws.{◌+◌, ◌-◌, arith, writes_then, slides_then, none_slid, inside_body}
-use Rattle.database_edits.proofs.RemovedEntries.{header_removed, removed, slid_kept}
+use Rattle.database_edits.proofs.Laws.{◌+◌, ◌-◌, arith, writes_then, slides_then, none_slid, inside_body, database_here, entry_removed, entry_offset, header_bytes, overwritten, sized_to, managers, rebodied_as, then_by}
+use Rattle.database_edits.proofs.RemovedEntries.{header_removed, removed_bytes, slid_kept}
 use Rattle.database_edits.proofs.removal.remove_entry.Goals as goal
 
 pub slide_entries-requires-clause-from_inside : goal.slide_entries-requires-clause-from_inside
@@ -48,10 +48,17 @@ returns-clause-removed c =
     c.slide_entries.ensures.slides c.requires.inside (omega (arith, c.requires.opened.count))
     c.heading_here-heading.ensures.modification_number c.put_entry_count.ensures.puts
     c.put_modification_number.ensures.puts in
-    removed c.args.index (c.args.opened.entry_count - 1) c.args.opened.entry_count
-    c.requires.opened.spells c.heading_here-heading.ensures.kind c.requires.opened.count
-    (omega (arith, c.requires.opened.count)) (omega (arith, c.requires.opened.count))
-    c.slide_entries.ensures.slides header (rw c.entry_offset.ensures at c.shrink.ensures.shrinks)
+    let now = header_bytes (entry_removed c.args.index
+    (database_here c.args.heap.now.bytes c.args.opened.db.0)) in
+    let m = managers _ _ c.requires.opened.spells in
+    (rebodied_as (removed_bytes c.args.index (c.args.opened.entry_count - 1)
+    c.args.opened.entry_count c.requires.opened.spells c.heading_here-heading.ensures.kind
+    c.requires.opened.count (omega (arith, c.requires.opened.count))
+    (omega (arith, c.requires.opened.count)))
+    (then_by (λ xs. sized_to xs (entry_offset c.heading_here-heading.result.resources
+    (c.args.opened.entry_count - 1))) m
+    (then_by (λ xs. overwritten xs 0 now) m c.slide_entries.ensures.slides header.puts)
+    (rw c.entry_offset.ensures at c.shrink.ensures.shrinks))).leaves
 
 pub returns-clause-kept : goal.returns-clause-kept
 returns-clause-kept c =
