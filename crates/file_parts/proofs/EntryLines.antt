@@ -1,14 +1,6 @@
 -- The lines of the entries, one after the other.
-use Rattle.std.proofs.Common.{◌≡◌, ℕ, ◌+◌, ◌/◌, ◌%◌, ◌<◌, ◌≤◌, Option, List, [], ◌∷◌, ◌++◌, length, get_or, drop, refl, sym, ap, ◌∙◌, arith, add-one, drop-cons, append_assoc}
-use Rattle.std.proofs.lemmas.List.{drop_all}
-use Rattle.std.specs.Prelude.{Some, codes, decimal}
-use Rattle.heap_model.specs.Database.{Entry, a_record, a_resource, entry_data, entry_count_in, entry_with}
-use Rattle.pdb_format.specs.Blocks.{bytes_at}
-use Rattle.pdb_format.specs.declared.blocks.Block.{Block}
-use Rattle.pdb_format.specs.ReadFiles.{entry_read_at, entries_read}
-use Rattle.pdb_format.proofs.ReadFiles.{length-entries_read, entry_read_is}
-use Rattle.file_parts.specs.Texts.{name_if_data, entry_name, named_entries, entry_lines, part_text, entry_values, entry_line}
-use Rattle.file_parts.specs.Unpacking.{line_at}
+use Rattle.file_parts.proofs.Words.{◌≡◌, ℕ, ◌+◌, ◌/◌, ◌%◌, ◌<◌, ◌≤◌, Option, List, [], ◌∷◌, ◌++◌, length, get_or, drop, refl, sym, ap, ◌∙◌, arith, add-one, drop-cons, append_assoc, drop_all, codes, decimal, Entry, a_record, a_resource, entry_data, entry_count_in, entry_with, bytes_at, Block, entry_read_at, entries_read, length-entries_read, entry_read_is, name_if_data, entry_name, named_entries, entry_lines, part_text, entry_values, entry_line, line_at}
+use Rattle.std.specs.Prelude.{Some}
 
 -- the lines from an index on
 abbrev pub rest_lines : List ℕ → List ℕ → ℕ → List ℕ

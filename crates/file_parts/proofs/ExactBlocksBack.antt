@@ -1,19 +1,5 @@
 -- Blocks that come in an order, one after the other, are read back.
-use Rattle.std.proofs.Common.{◌≡◌, ℕ, zero, suc, ◌+◌, ◌-◌, ◌*◌, ◌^◌, ◌<◌, ◌≤◌, Bool, true, false, Option, Some, None, List, [], ◌∷◌, ◌++◌, length, get_or, take, drop, map, refl, sym, ap, subst, ◌∙◌, arith, inl, inr, append_assoc, append-nil, length-append}
-use Rattle.std.specs.Prelude.{◌==◌, nat_lt, filter, is_some, slice_index, slice_range}
-use Rattle.std.specs.List.{flat_map, range_with_len, remove}
-use Rattle.std.specs.List.Sorted.{IsPermutation, IsNonDecreasingBy}
-use Rattle.std.proofs.lemmas.Bool.{cases_eq, cases_lt, eq-eqb, ne_eqb, lt-ltb, le-ltb}
-use Rattle.std.proofs.lemmas.List.{drop_at, get_or-map, get_or_past, length-map, take_all, take_at, take_more, take-append-drop}
-use Rattle.std.proofs.lemmas.List.Concat.{flat_map-append}
-use Rattle.std.proofs.lemmas.List.FromFn.{fill_by_all, get_or-map-range_with_len}
-use Rattle.std.proofs.lemmas.List.Sorted.{IsPermutation-refl, IsPermutation-sym, IsPermutation-trans, IsPermutation-cons, IsPermutation-map, IsPermutation-remove}
-use Rattle.heap_model.specs.Lists.{same, times}
-use Rattle.heap_model.specs.Files.{block_at, block_bytes, block_size, blocks_in, offsets_in}
-use Rattle.laws_store.proofs.Times.{same-yes, same-no, times-cons, times-remove, times-some, contained-times}
-use Rattle.pdb_format.specs.Starts.{start_of, begins, is_block_there, order, starts_in}
-use Rattle.pdb_format.proofs.SortedStarts.{AreSorted}
-use Rattle.file_parts.specs.Exact.{offset_among}
+use Rattle.file_parts.proofs.Words.{◌≡◌, ℕ, zero, suc, ◌+◌, ◌-◌, ◌*◌, ◌^◌, ◌<◌, ◌≤◌, Bool, true, false, Option, Some, None, List, [], ◌∷◌, ◌++◌, length, get_or, take, drop, map, refl, sym, ap, subst, ◌∙◌, arith, inl, inr, append_assoc, append-nil, length-append, ◌==◌, nat_lt, filter, is_some, slice_index, slice_range, flat_map, range_with_len, remove, IsPermutation, IsNonDecreasingBy, cases_eq, cases_lt, eq-eqb, ne_eqb, lt-ltb, le-ltb, drop_at, get_or-map, get_or_past, length-map, take_all, take_at, take_more, take-append-drop, flat_map-append, fill_by_all, get_or-map-range_with_len, IsPermutation-refl, IsPermutation-sym, IsPermutation-trans, IsPermutation-cons, IsPermutation-map, IsPermutation-remove, same, times, block_at, block_bytes, block_size, blocks_in, offsets_in, same-yes, same-no, times-cons, times-remove, times-some, contained-times, start_of, begins, is_block_there, order, starts_in, AreSorted, offset_among}
 use Rattle.file_parts.proofs.ExactBlocks.{Start, begins_past, block_here, place_of, starts_of}
 use Rattle.file_parts.proofs.ExactInside.{times_not, times_once}
 use Rattle.file_parts.proofs.ExactPlaces.{blocks_of}

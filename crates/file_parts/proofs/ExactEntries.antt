@@ -1,12 +1,5 @@
 -- The lines of the entries of a file as they stand, one after the other.
-use Rattle.std.proofs.Common.{◌≡◌, ℕ, ◌+◌, ◌<◌, ◌≤◌, Option, List, [], ◌∷◌, ◌++◌, length, get_or, drop, refl, ap, ◌∙◌, arith, add-one, drop-cons}
-use Rattle.std.proofs.lemmas.List.{drop_all}
-use Rattle.std.proofs.lemmas.List.FromFn.{get_or-map-range_with_len, length-map-range_with_len}
-use Rattle.heap_model.specs.Lists.{numbered}
-use Rattle.heap_model.specs.Database.{Entry, entry_count_in}
-use Rattle.file_parts.specs.Texts.{entry_lines, named_entries, with_names}
-use Rattle.file_parts.specs.Exact.{exact_database, exact_entry}
-use Rattle.file_parts.specs.ExactUnpacking.{exact_entry_line}
+use Rattle.file_parts.proofs.Words.{◌≡◌, ℕ, ◌+◌, ◌<◌, ◌≤◌, Option, List, [], ◌∷◌, ◌++◌, length, get_or, drop, refl, ap, ◌∙◌, arith, add-one, drop-cons, drop_all, get_or-map-range_with_len, length-map-range_with_len, numbered, Entry, entry_count_in, entry_lines, named_entries, with_names, exact_database, exact_entry, exact_entry_line}
 
 abbrev all_of : List ℕ → List (Entry (Option (List ℕ)))
 all_of file = numbered (exact_entry file) (entry_count_in file)

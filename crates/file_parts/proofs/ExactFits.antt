@@ -1,22 +1,5 @@
 -- What a file is exactly has a text.
-use Rattle.std.proofs.Common.{◌≡◌, ℕ, suc, ◌+◌, ◌^◌, ◌<◌, Bool, true, false, Option, None, List, length, map, get_or, refl, sym, ap, subst, ◌∙◌, arith}
-use Rattle.std.specs.Prelude.{All}
-use Rattle.std.specs.List.{range_with_len}
-use Rattle.std.proofs.lemmas.List.{get_or-map}
-use Rattle.std.proofs.lemmas.List.FromFn.{fill_by_all, get_or-map-range_with_len, length-map-range_with_len}
-use Rattle.byteorder.specs.Numbers.{big_from-lt}
-use Rattle.heap_model.specs.Bytes.{AreBytes, u24_at}
-use Rattle.heap_model.specs.Database.{Database, DatabaseHeader, Entry, a_record, a_resource, HeaderFits, IsDatabaseName, database_in, entry_at, entry_count_in, entry_data, entry_in, entry_offset, entry_with, has_resources, header_in, resources_in}
-use Rattle.heap_model.specs.Files.{HasNoFault, blocks_in}
-use Rattle.heap_model.specs.FileSteps.{size_of_block}
-use Rattle.laws_store.proofs.Shapes.{header_fits}
-use Rattle.pdb_format.specs.Writable.{IsWritableEntry}
-use Rattle.pdb_format.proofs.FileBlocks.{none_planned, record_block, resource_block}
-use Rattle.pdb_format.proofs.FileNames.{file_named}
-use Rattle.pdb_format.proofs.Zips.{zip_at, zip_long}
-use Rattle.file_parts.specs.Texts.{with_names}
-use Rattle.file_parts.specs.Laws.{HasText}
-use Rattle.file_parts.specs.Exact.{ExactFile, HasValuesOf, IsExactly, exact_database, exact_entry}
+use Rattle.file_parts.proofs.Words.{◌≡◌, ℕ, suc, ◌+◌, ◌^◌, ◌<◌, Bool, true, false, Option, None, List, length, map, get_or, refl, sym, ap, subst, ◌∙◌, arith, All, range_with_len, get_or-map, fill_by_all, get_or-map-range_with_len, length-map-range_with_len, big_from-lt, AreBytes, u24_at, Database, DatabaseHeader, Entry, a_record, a_resource, HeaderFits, IsDatabaseName, database_in, entry_at, entry_count_in, entry_data, entry_in, entry_offset, entry_with, has_resources, header_in, resources_in, HasNoFault, blocks_in, size_of_block, header_fits, IsWritableEntry, none_planned, record_block, resource_block, file_named, zip_at, zip_long, with_names, HasText, ExactFile, HasValuesOf, IsExactly, exact_database, exact_entry}
 use Rattle.file_parts.proofs.PackedBack.{u16_small, u32_small}
 use Rattle.file_parts.proofs.PartsBack.{has_text_of, name_bytes}
 

@@ -1,22 +1,5 @@
 -- A file that is taken apart as it stands is packed back.
-use Rattle.std.proofs.Common.{◌≡◌, ℕ, zero, suc, ◌+◌, ◌≤◌, Bool, true, false, Option, Some, None, List, [], ◌∷◌, ◌++◌, length, get_or, map, refl, sym, ap, subst, ◌∙◌, arith}
-use Rattle.std.specs.Prelude.{◌==◌, Ok, is_some}
-use Rattle.std.specs.Option.{option_map_or}
-use Rattle.std.proofs.lemmas.Bool.{ne_eqb}
-use Rattle.std.proofs.lemmas.List.{length-map}
-use Rattle.std.proofs.Math.Seq.{get_or-append_seam}
-use Rattle.heap_model.specs.Bytes.{AreBytes}
-use Rattle.heap_model.specs.Database.{Database, DatabaseHeader, Entry, a_record, a_resource, IsDatabaseName, data_in, entry_data, entry_with, header_in, name_in}
-use Rattle.heap_model.specs.Files.{block_bytes, offsets_in}
-use Rattle.pdb_format.proofs.FileBlocks.{block_count}
-use Rattle.pdb_format.proofs.FileNames.{file_named}
-use Rattle.pdb_format.proofs.GoodFiles.{not_truncated, offset_count}
-use Rattle.file_parts.specs.Texts.{app_name, entry_name, name_if_data, named_entries, sort_name, with_names}
-use Rattle.file_parts.specs.Laws.{HasText, IsPartName}
-use Rattle.file_parts.specs.Packing.{part_at}
-use Rattle.file_parts.specs.Exact.{ExactFile, IsExactly}
-use Rattle.file_parts.specs.ExactTexts.{after_name_of, exact_of_parts, exact_text, filler_named, order_of, text_of_exact}
-use Rattle.file_parts.specs.ExactReading.{read_exact}
+use Rattle.file_parts.proofs.Words.{◌≡◌, ℕ, zero, suc, ◌+◌, ◌≤◌, Bool, true, false, Option, Some, None, List, [], ◌∷◌, ◌++◌, length, get_or, map, refl, sym, ap, subst, ◌∙◌, arith, ◌==◌, Ok, is_some, option_map_or, ne_eqb, length-map, get_or-append_seam, AreBytes, Database, DatabaseHeader, Entry, a_record, a_resource, IsDatabaseName, data_in, entry_data, entry_with, header_in, name_in, block_bytes, offsets_in, block_count, file_named, not_truncated, offset_count, app_name, entry_name, name_if_data, named_entries, sort_name, with_names, HasText, IsPartName, part_at, ExactFile, IsExactly, after_name_of, exact_of_parts, exact_text, filler_named, order_of, text_of_exact, read_exact}
 use Rattle.file_parts.specs.ExactLaws.{PacksBackExactly, exact_parts}
 use Rattle.file_parts.proofs.PackedBack.{u16_small}
 use Rattle.file_parts.proofs.PartsBack.{parts_and_more}

@@ -1,15 +1,5 @@
 -- The lines of a text that only an exact folder has, and the line of an entry.
-use Rattle.std.proofs.Common.{◌≡◌, ℕ, zero, suc, ◌-◌, ◌≤◌, Bool, true, false, cond, Option, Some, None, List, [], ◌∷◌, ◌++◌, length, take, drop, refl, sym, ap, ◌∙◌, arith}
-use Rattle.std.specs.Prelude.{◌==◌, codes, replicate}
-use Rattle.std.specs.List.{list_all}
-use Rattle.std.proofs.lemmas.Bool.{and_parts}
-use Rattle.std.proofs.lemmas.List.{length-take-le, take-append-drop, length-drop}
-use Rattle.std.proofs.Math.Seq.{drop-append_seam}
-use Rattle.hex.specs.Hex.{encode_lower}
-use Rattle.heap_model.specs.Database.{Entry, a_record, a_resource, HasName, IsDatabaseName, entry_data, entry_with, name_field, name_in}
-use Rattle.pdb_format.specs.Filler.{filler_in}
-use Rattle.file_parts.specs.ExactTexts.{filler_line, filler_name}
-use Rattle.file_parts.specs.ExactUnpacking.{after_name_text, filler_text}
+use Rattle.file_parts.proofs.Words.{◌≡◌, ℕ, zero, suc, ◌-◌, ◌≤◌, Bool, true, false, cond, Option, Some, None, List, [], ◌∷◌, ◌++◌, length, take, drop, refl, sym, ap, ◌∙◌, arith, ◌==◌, codes, replicate, list_all, and_parts, length-take-le, take-append-drop, length-drop, drop-append_seam, encode_lower, Entry, a_record, a_resource, HasName, IsDatabaseName, entry_data, entry_with, name_field, name_in, filler_in, filler_line, filler_name, after_name_text, filler_text}
 
 abbrev after_of : List ℕ → List ℕ
 after_of file = drop (length (name_in file)) (take 32 file)

@@ -1,16 +1,5 @@
 -- The ranks of an order are those of blocks, each once.
-use Rattle.std.proofs.Common.{◌≡◌, ℕ, zero, suc, ◌+◌, ◌<◌, ◌≤◌, Bool, true, false, Option, None, List, [], ◌∷◌, ◌++◌, length, get_or, map, refl, sym, ap, subst, ◌∙◌, arith, inl, inr}
-use Rattle.std.specs.Prelude.{◌==◌, filter, is_some}
-use Rattle.std.specs.List.{range_with_len}
-use Rattle.std.proofs.lemmas.Bool.{and_parts, cases_eq, cases_lt}
-use Rattle.std.proofs.lemmas.List.{get_or_past}
-use Rattle.heap_model.specs.Lists.{times}
-use Rattle.laws_store.proofs.Times.{same-yes, same-no, times-append, times-cons, times-some}
-use Rattle.script_lines.specs.declared.fault.ScriptFault.TheVariants.{BadWord}
-use Rattle.file_parts.specs.Reading.{fault_in}
-use Rattle.file_parts.specs.ExactTexts.{is_other, order_of}
-use Rattle.file_parts.specs.ExactReading.{order_fault}
-use Rattle.file_parts.specs.declared.exact_lines.OrderLine.{OrderLine}
+use Rattle.file_parts.proofs.Words.{◌≡◌, ℕ, zero, suc, ◌+◌, ◌<◌, ◌≤◌, Bool, true, false, Option, None, List, [], ◌∷◌, ◌++◌, length, get_or, map, refl, sym, ap, subst, ◌∙◌, arith, inl, inr, ◌==◌, filter, is_some, range_with_len, and_parts, cases_eq, cases_lt, get_or_past, times, same-yes, same-no, times-append, times-cons, times-some, BadWord, fault_in, is_other, order_of, order_fault, OrderLine}
 use Rattle.file_parts.proofs.ExactBlocks.{zero_of}
 use Rattle.file_parts.proofs.ExactOrders.{named_once, none_fault}
 use Rattle.file_parts.proofs.ExactRanks.{not_true, true_false}

@@ -1,16 +1,5 @@
 -- The lines `order` of a text are read one by one.
-use Rattle.std.proofs.Common.{◌≡◌, ℕ, zero, suc, ◌<◌, ◌≤◌, Option, Some, None, List, [], ◌∷◌, ◌++◌, length, refl, sym, ap, subst, arith}
-use Rattle.std.specs.Prelude.{Ok, Err, Result, codes, option_map}
-use Rattle.std.specs.Option.{option_and_then, option_map_or}
-use Rattle.script_lines.specs.Words.{words_of}
-use Rattle.script_lines.specs.declared.fault.LineFault.{LineFault}
-use Rattle.script_lines.specs.declared.fault.ScriptFault.{ScriptFault}
-use Rattle.script_lines.specs.declared.fault.ScriptFault.TheVariants.{BadWord}
-use Rattle.file_parts.specs.Left.{Left}
-use Rattle.file_parts.specs.Words.{only_word, words_after}
-use Rattle.file_parts.specs.Reading.{Read, fault_in, next_of, then_read}
-use Rattle.file_parts.specs.ExactReading.{next_order, only_word_at, read_order, read_order_line, spelled_rank, value_if, words_and}
-use Rattle.file_parts.specs.declared.exact_lines.OrderLine.{OrderLine}
+use Rattle.file_parts.proofs.Words.{◌≡◌, ℕ, zero, suc, ◌<◌, ◌≤◌, Option, Some, None, List, [], ◌∷◌, ◌++◌, length, refl, sym, ap, subst, arith, Ok, Err, Result, codes, option_map, option_and_then, option_map_or, words_of, LineFault, ScriptFault, BadWord, Left, only_word, words_after, Read, fault_in, next_of, then_read, next_order, only_word_at, read_order, read_order_line, spelled_rank, value_if, words_and, OrderLine}
 use Rattle.file_parts.proofs.ListedEntries.{next_shorter}
 
 -- What is read of a line that may be left out: nothing, and no line; or a value or a fault, of a

@@ -1,15 +1,5 @@
 -- The bytes after the name of a file.
-use Rattle.std.proofs.Common.{◌≡◌, ℕ, suc, ◌+◌, ◌-◌, ◌<◌, ◌≤◌, Bool, true, false, None, List, [], ◌∷◌, ◌++◌, length, get_or, take, refl, sym, ap, subst, ◌∙◌, arith, inl, inr, length-append}
-use Rattle.std.specs.Prelude.{◌==◌, not, replicate}
-use Rattle.std.specs.List.{list_all, prefix_len}
-use Rattle.std.proofs.lemmas.Bool.{cases_eq, eq-eqb, ne_eqb}
-use Rattle.std.proofs.lemmas.List.{get_or-take, length-take, length-take-le}
-use Rattle.std.proofs.lemmas.List.Sums.{prefix_len_stops}
-use Rattle.std.proofs.Math.Seq.{get_or-append_seam}
-use Rattle.heap_model.specs.Bytes.{AreBytes}
-use Rattle.heap_model.specs.Database.{IsDatabaseName, name_in}
-use Rattle.file_parts.specs.ExactTexts.{after_name_of, unless_zeros}
-use Rattle.file_parts.specs.ExactReading.{after_name_fault, is_after_name}
+use Rattle.file_parts.proofs.Words.{◌≡◌, ℕ, suc, ◌+◌, ◌-◌, ◌<◌, ◌≤◌, Bool, true, false, None, List, [], ◌∷◌, ◌++◌, length, get_or, take, refl, sym, ap, subst, ◌∙◌, arith, inl, inr, length-append, ◌==◌, not, replicate, list_all, prefix_len, cases_eq, eq-eqb, ne_eqb, get_or-take, length-take, length-take-le, prefix_len_stops, get_or-append_seam, AreBytes, IsDatabaseName, name_in, after_name_of, unless_zeros, after_name_fault, is_after_name}
 use Rattle.file_parts.proofs.PartsBack.{front_bytes}
 use Rattle.file_parts.proofs.ExactHeads.{all_zeros}
 use Rattle.file_parts.proofs.ExactTextBack.{IsAfter, after_at}

@@ -1,13 +1,5 @@
 -- Where blocks begin that come in an order, one after the other, and the entries with their offsets.
-use Rattle.std.proofs.Common.{◌≡◌, ℕ, zero, suc, ◌+◌, ◌<◌, Bool, true, false, Option, List, [], ◌∷◌, ◌++◌, length, get_or, refl, ap, ◌∙◌, arith, length-append}
-use Rattle.std.specs.Prelude.{◌==◌}
-use Rattle.std.specs.List.{flat_map}
-use Rattle.std.proofs.lemmas.Bool.{eq-eqb, ne_eqb}
-use Rattle.heap_model.specs.Lists.{times}
-use Rattle.heap_model.specs.Database.{Entry, a_record, a_resource, entry_with}
-use Rattle.heap_model.specs.Files.{block_bytes, block_size}
-use Rattle.laws_store.proofs.Times.{same-yes, times-cons}
-use Rattle.file_parts.specs.Exact.{entries_placed, offset_among}
+use Rattle.file_parts.proofs.Words.{◌≡◌, ℕ, zero, suc, ◌+◌, ◌<◌, Bool, true, false, Option, List, [], ◌∷◌, ◌++◌, length, get_or, refl, ap, ◌∙◌, arith, length-append, ◌==◌, flat_map, eq-eqb, ne_eqb, times, Entry, a_record, a_resource, entry_with, block_bytes, block_size, same-yes, times-cons, entries_placed, offset_among}
 
 -- the block of one more rank begins after the others
 pub offset_last : (block : ℕ → Option (List ℕ)) (at : ℕ) (ranks : List ℕ) (rank : ℕ) → times rank ranks ≡ 0 → offset_among block at (ranks ++ rank ∷ []) rank ≡ at + length (flat_map (λ r. block_bytes (block r)) ranks)

@@ -1,20 +1,5 @@
 -- The ranks of a text's lines `order`, with the marks of those that were taken.
-use Rattle.std.proofs.Common.{◌≡◌, ℕ, zero, suc, ◌+◌, ◌<◌, ◌≤◌, Bool, true, false, cond, Option, Some, None, List, [], ◌∷◌, ◌++◌, length, get_or, drop, map, refl, sym, ap, subst, ◌∙◌, arith, inl, inr, append_assoc, append-nil, add-one, drop-cons}
-use Rattle.std.specs.Prelude.{◌&&◌, ◌==◌, nat_lt, filter, is_some, replicate}
-use Rattle.std.specs.List.{range_with_len}
-use Rattle.std.proofs.Math.ListN.{set}
-use Rattle.std.proofs.lemmas.Bool.{and_parts, cases_eq, cases_lt, lt-ltb, le-ltb, ne_eqb}
-use Rattle.std.proofs.lemmas.List.{get_or_past, get_or-set_same, get_or-set_other, length-replicate, length-set}
-use Rattle.std.proofs.lemmas.List.FromFn.{filter_of_map_range_with_len_more}
-use Rattle.heap_model.specs.Lists.{times}
-use Rattle.laws_store.proofs.Times.{same-yes, same-no, times-append, times-cons}
-use Rattle.script_lines.specs.declared.fault.LineFault.{LineFault}
-use Rattle.script_lines.specs.declared.fault.ScriptFault.TheVariants.{BadWord}
-use Rattle.file_parts.specs.Reading.{fault_in}
-use Rattle.file_parts.specs.ExactTexts.{is_other, order_of}
-use Rattle.file_parts.specs.ExactReading.{order_fault}
-use Rattle.file_parts.specs.ExactListed.{AreMarked, free_ranks, is_free}
-use Rattle.file_parts.specs.declared.exact_lines.OrderLine.{OrderLine}
+use Rattle.file_parts.proofs.Words.{◌≡◌, ℕ, zero, suc, ◌+◌, ◌<◌, ◌≤◌, Bool, true, false, cond, Option, Some, None, List, [], ◌∷◌, ◌++◌, length, get_or, drop, map, refl, sym, ap, subst, ◌∙◌, arith, inl, inr, append_assoc, append-nil, add-one, drop-cons, ◌&&◌, ◌==◌, nat_lt, filter, is_some, replicate, range_with_len, set, and_parts, cases_eq, cases_lt, lt-ltb, le-ltb, ne_eqb, get_or_past, get_or-set_same, get_or-set_other, length-replicate, length-set, filter_of_map_range_with_len_more, times, same-yes, same-no, times-append, times-cons, LineFault, BadWord, fault_in, is_other, order_of, order_fault, AreMarked, free_ranks, is_free, OrderLine}
 use Rattle.file_parts.proofs.ExactBlocks.{zero_of}
 
 and_swap : (a b : Bool) → a && b ≡ b && a

@@ -1,25 +1,5 @@
 -- The file that is put together from an exact folder is read back as the folder's.
-use Rattle.std.proofs.Common.{◌≡◌, ℕ, zero, suc, ◌+◌, ◌-◌, ◌<◌, ◌≤◌, Bool, true, false, Option, Some, None, List, [], length, get_or, map, refl, sym, ap, subst, ◌∙◌, arith, inl, inr, length-append}
-use Rattle.std.specs.Prelude.{◌⊎◌, ◌==◌, ◌&&◌, ◌||◌, nat_lt, filter, is_some, option_map, replicate, slice_index}
-use Rattle.std.specs.List.{range_with_len}
-use Rattle.std.proofs.lemmas.Bool.{and_from, and_parts, cases_eq, cases_lt, eq-eqb, eqb-true, ltb-true}
-use Rattle.std.proofs.lemmas.List.{get_or_past, get_or-append_right, get_or-replicate, length-map, length-replicate}
-use Rattle.heap_model.specs.Lists.{times}
-use Rattle.heap_model.specs.Database.{data_in, has_resources}
-use Rattle.heap_model.specs.Files.{block_size}
-use Rattle.laws_store.proofs.Times.{times-append}
-use Rattle.canonical_file.specs.Canonical.{most_bytes}
-use Rattle.script_lines.specs.declared.fault.ScriptFault.TheVariants.{BadWord}
-use Rattle.file_parts.specs.declared.exact_lines.AfterName.{AfterName}
-use Rattle.file_parts.specs.declared.exact_lines.OrderLine.{OrderLine}
-use Rattle.file_parts.specs.declared.exact_listed.ListedExact.{ListedExact}
-use Rattle.file_parts.specs.Listed.{database_listed, entries_listed}
-use Rattle.file_parts.specs.Packing.{filled, part_at}
-use Rattle.file_parts.specs.Reading.{fault_in}
-use Rattle.file_parts.specs.Exact.{ExactFile, IsExactly, exact_block, exact_size, is_misplaced}
-use Rattle.file_parts.specs.ExactTexts.{after_name_of, is_other}
-use Rattle.file_parts.specs.ExactReading.{after_name_fault, is_after_name}
-use Rattle.file_parts.specs.ExactListed.{HasExactParts, IsExactlyPacked, exact_packed}
+use Rattle.file_parts.proofs.Words.{◌≡◌, ℕ, zero, suc, ◌+◌, ◌-◌, ◌<◌, ◌≤◌, Bool, true, false, Option, Some, None, List, [], length, get_or, map, refl, sym, ap, subst, ◌∙◌, arith, inl, inr, length-append, ◌⊎◌, ◌==◌, ◌&&◌, ◌||◌, nat_lt, filter, is_some, option_map, replicate, slice_index, range_with_len, and_from, and_parts, cases_eq, cases_lt, eq-eqb, eqb-true, ltb-true, get_or_past, get_or-append_right, get_or-replicate, length-map, length-replicate, times, data_in, has_resources, block_size, times-append, most_bytes, BadWord, AfterName, OrderLine, ListedExact, database_listed, entries_listed, filled, part_at, fault_in, ExactFile, IsExactly, exact_block, exact_size, is_misplaced, after_name_of, is_other, after_name_fault, is_after_name, HasExactParts, IsExactlyPacked, exact_packed}
 use Rattle.file_parts.proofs.ExactBlocksBack.{times_in}
 use Rattle.file_parts.proofs.ExactHeadBack.{AreAfter}
 use Rattle.file_parts.proofs.ExactInside.{inside_some, named_some, ranks_once, times_not}

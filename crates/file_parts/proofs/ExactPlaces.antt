@@ -1,15 +1,5 @@
 -- Offsets that are found for one rank after the other.
-use Rattle.std.proofs.Common.{◌≡◌, ℕ, ◌+◌, ◌<◌, ◌≤◌, Option, List, [], ◌∷◌, ◌++◌, length, get_or, take, drop, sym, ap, subst, ◌∙◌, arith, inl, inr, append-nil, length-append}
-use Rattle.std.specs.Prelude.{replicate}
-use Rattle.std.specs.List.{flat_map}
-use Rattle.std.proofs.Math.ListN.{set}
-use Rattle.std.proofs.lemmas.Bool.{cases_eq}
-use Rattle.std.proofs.lemmas.List.{get_or-replicate, get_or-set_same, get_or-set_other, length-replicate, length-set, take-append-drop, take_more}
-use Rattle.std.proofs.lemmas.List.Concat.{flat_map-append}
-use Rattle.heap_model.specs.Lists.{times}
-use Rattle.heap_model.specs.Files.{block_bytes}
-use Rattle.laws_store.proofs.Times.{same-yes, times-append, times-cons}
-use Rattle.file_parts.specs.Exact.{offset_among}
+use Rattle.file_parts.proofs.Words.{◌≡◌, ℕ, ◌+◌, ◌<◌, ◌≤◌, Option, List, [], ◌∷◌, ◌++◌, length, get_or, take, drop, sym, ap, subst, ◌∙◌, arith, inl, inr, append-nil, length-append, replicate, flat_map, set, cases_eq, get_or-replicate, get_or-set_same, get_or-set_other, length-replicate, length-set, take-append-drop, take_more, flat_map-append, times, block_bytes, same-yes, times-append, times-cons, offset_among}
 use Rattle.file_parts.proofs.ExactOffsets.{offset_last, offset_other}
 use Rattle.file_parts.proofs.ExactRanks.{rest_from}
 

@@ -1,18 +1,5 @@
 -- The order of the blocks of a file, as a text gives it.
-use Rattle.std.proofs.Common.{◌≡◌, ℕ, zero, suc, ◌+◌, ◌<◌, ◌≤◌, Bool, true, false, Option, None, List, [], ◌∷◌, ◌++◌, length, get_or, take, drop, refl, sym, ap, subst, ◌∙◌, arith, inl, inr, append-nil, add-one, drop-cons}
-use Rattle.std.specs.Prelude.{◌==◌, nat_le, filter, is_some, All}
-use Rattle.std.specs.List.{range_with_len}
-use Rattle.std.proofs.lemmas.Bool.{and_parts, cases_eq, cases_lt, eq-eqb, leb-true}
-use Rattle.std.proofs.lemmas.List.{drop_all, get_or-take, length-map, length-take-le, take_more}
-use Rattle.std.proofs.lemmas.List.FromFn.{get_or-map-range_with_len}
-use Rattle.heap_model.specs.Lists.{times}
-use Rattle.heap_model.specs.Files.{blocks_in, offsets_in, block_at}
-use Rattle.laws_store.proofs.Times.{times-some, contained-times}
-use Rattle.pdb_format.specs.Starts.{start_of}
-use Rattle.pdb_format.proofs.SortedStarts.{AreSorted, ranks_apart, start_found}
-use Rattle.pdb_format.proofs.WrittenBlocks.{block_there}
-use Rattle.file_parts.specs.ExactTexts.{is_other, is_rising, order_of, unless_rising}
-use Rattle.file_parts.specs.ExactReading.{order_fault}
+use Rattle.file_parts.proofs.Words.{◌≡◌, ℕ, zero, suc, ◌+◌, ◌<◌, ◌≤◌, Bool, true, false, Option, None, List, [], ◌∷◌, ◌++◌, length, get_or, take, drop, refl, sym, ap, subst, ◌∙◌, arith, inl, inr, append-nil, add-one, drop-cons, ◌==◌, nat_le, filter, is_some, All, range_with_len, and_parts, cases_eq, cases_lt, eq-eqb, leb-true, drop_all, get_or-take, length-map, length-take-le, take_more, get_or-map-range_with_len, times, blocks_in, offsets_in, block_at, times-some, contained-times, start_of, AreSorted, ranks_apart, start_found, block_there, is_other, is_rising, order_of, unless_rising, order_fault}
 use Rattle.file_parts.proofs.ExactBlocks.{Start, place_of, start_at, starts_of, zero_of}
 use Rattle.file_parts.proofs.ExactTextBack.{lines_at}
 

@@ -1,15 +1,6 @@
 -- A file without fault is exactly its header, its entries, its blocks and the bytes between them.
-use Rattle.std.proofs.Common.{◌≡◌, ℕ, zero, suc, ◌+◌, ◌<◌, Option, None, List, ◌++◌, length, get_or, take, drop, map, refl, sym, ap, subst, ◌∙◌, arith}
-use Rattle.std.specs.Prelude.{◌==◌, Bool, not}
-use Rattle.std.specs.List.{AllZip, prefix_len, range_with_len}
-use Rattle.std.proofs.lemmas.List.{ext_get_or, get_or-map, length-map, length-take, take-append-drop, take-take}
-use Rattle.std.proofs.lemmas.List.FromFn.{get_or-map-range_with_len, length-map-range_with_len}
-use Rattle.std.proofs.lemmas.List.Sums.{prefix_len-le-length}
-use Rattle.heap_model.specs.Database.{Entry, a_record, a_resource, data_in, database_in, entry_count_in, entry_data, entry_in, entry_with, header_in, name_in}
-use Rattle.heap_model.specs.Files.{HasNoFault, blocks_in, offsets_in}
-use Rattle.pdb_format.proofs.FileBlocks.{block_count}
-use Rattle.pdb_format.proofs.Zips.{numbered_zip}
-use Rattle.file_parts.specs.Exact.{HasValuesOf, IsExactly, IsOrderOf, exact_database, exact_entry, exact_in}
+use Rattle.file_parts.proofs.Words.{◌≡◌, ℕ, zero, suc, ◌+◌, ◌<◌, Option, None, List, ◌++◌, length, get_or, take, drop, map, refl, sym, ap, subst, ◌∙◌, arith, ◌==◌, not, AllZip, prefix_len, range_with_len, ext_get_or, get_or-map, length-map, length-take, take-append-drop, take-take, get_or-map-range_with_len, length-map-range_with_len, prefix_len-le-length, Entry, a_record, a_resource, data_in, database_in, entry_count_in, entry_data, entry_in, entry_with, header_in, name_in, HasNoFault, blocks_in, offsets_in, block_count, numbered_zip, HasValuesOf, IsExactly, IsOrderOf, exact_database, exact_entry, exact_in}
+use Rattle.std.specs.Prelude.{Bool}
 use Rattle.file_parts.proofs.ExactHeads.{data_with}
 
 -- ---- the name

@@ -1,21 +1,6 @@
 -- The bytes of a file as it stands are read back as this file.
-use Rattle.std.proofs.Common.{◌≡◌, ℕ, zero, suc, ◌+◌, ◌-◌, ◌*◌, ◌^◌, ◌<◌, ◌≤◌, Bool, true, false, Option, Some, None, List, [], ◌∷◌, ◌++◌, length, get_or, take, drop, map, refl, sym, ap, subst, ◌∙◌, arith, inl, inr, append_assoc, length-append}
-use Rattle.std.specs.Prelude.{All, ◌⊎◌, ◌==◌, ◌&&◌, nat_lt, is_some, slice_index, slice_range}
-use Rattle.std.specs.List.{AllZip, concat, flat_map}
-use Rattle.std.proofs.lemmas.Bool.{cases_eq, cases_lt, lt-ltb}
-use Rattle.std.proofs.lemmas.List.{drop_at, get_or-map, length-map, take_at}
-use Rattle.std.proofs.lemmas.List.Elements.{All-head, All-tail, All-nil, All-cons}
-use Rattle.heap_model.specs.Bytes.{u32_at}
-use Rattle.heap_model.specs.Lists.{times}
-use Rattle.heap_model.specs.DatabaseFields.{entry_size}
-use Rattle.heap_model.specs.Database.{Database, DatabaseFits, DatabaseHeader, Entry, EntryFits, HeaderFits, IsDatabaseName, a_record, a_resource, data_in, database_in, entry_bytes, entry_count_in, entry_data, entry_in, entry_offset, entry_with, fields_behind_name, has_resources, header_in, name_in}
-use Rattle.heap_model.specs.Files.{HasBadOffset, HasNoFault, IsBadInfo, IsOutside, block_size, entries_end, offsets_in}
-use Rattle.laws_store.proofs.Spellings.{length-entries, length-fields}
-use Rattle.pdb_format.specs.Filler.{filler_in, first_start}
-use Rattle.pdb_format.specs.Writable.{IsWritableEntry}
+use Rattle.file_parts.proofs.Words.{◌≡◌, ℕ, zero, suc, ◌+◌, ◌-◌, ◌*◌, ◌^◌, ◌<◌, ◌≤◌, Bool, true, false, Option, Some, None, List, [], ◌∷◌, ◌++◌, length, get_or, take, drop, map, refl, sym, ap, subst, ◌∙◌, arith, inl, inr, append_assoc, length-append, All, ◌⊎◌, ◌==◌, ◌&&◌, nat_lt, is_some, slice_index, slice_range, AllZip, concat, flat_map, cases_eq, cases_lt, lt-ltb, drop_at, get_or-map, length-map, take_at, All-head, All-tail, All-nil, All-cons, u32_at, times, entry_size, Database, DatabaseFits, DatabaseHeader, Entry, EntryFits, HeaderFits, IsDatabaseName, a_record, a_resource, data_in, database_in, entry_bytes, entry_count_in, entry_data, entry_in, entry_offset, entry_with, fields_behind_name, has_resources, header_in, name_in, HasBadOffset, HasNoFault, IsBadInfo, IsOutside, block_size, entries_end, offsets_in, length-entries, length-fields, filler_in, first_start, IsWritableEntry, IsHeaded, ExactFile, HasValuesOf, IsExactly, entries_placed, exact_block, exact_blocks, exact_bytes, exact_offset, exact_placed, exact_size, exact_start, is_misplaced, offset_among}
 use Rattle.pdb_format.proofs.FaultLaws.{HasGoodHead, no_fault}
-use Rattle.pdb_format.proofs.WrittenHeads.{IsHeaded}
-use Rattle.file_parts.specs.Exact.{ExactFile, HasValuesOf, IsExactly, entries_placed, exact_block, exact_blocks, exact_bytes, exact_offset, exact_placed, exact_size, exact_start, is_misplaced, offset_among}
 use Rattle.file_parts.proofs.ExactBlocks.{first_begins}
 use Rattle.file_parts.proofs.ExactBlocksBack.{AreLaid, blocks_back, first_is, offset_low, offset_most, offset_none, sorted, starts_all, starts_rise}
 use Rattle.file_parts.proofs.ExactHeadBack.{AreAfter, back, headed}

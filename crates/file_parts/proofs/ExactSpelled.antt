@@ -1,22 +1,7 @@
 -- A file without fault is the bytes of what it is exactly.
-use Rattle.std.proofs.Common.{◌≡◌, ℕ, suc, ◌+◌, ◌*◌, ◌-◌, ◌^◌, ◌<◌, ◌≤◌, Bool, true, false, Option, None, List, [], ◌∷◌, ◌++◌, length, get_or, take, drop, map, refl, sym, ap, ◌∙◌, arith, inl, inr, append_assoc}
-use Rattle.std.specs.Prelude.{◌&&◌, ◌==◌, nat_lt, filter, slice_index}
-use Rattle.std.specs.List.{AllZip, concat, flat_map}
-use Rattle.std.proofs.lemmas.Bool.{and_parts, cases_eq, ltb-true}
-use Rattle.std.proofs.lemmas.List.{length-drop, length-take, drop-drop, take-append-drop}
-use Rattle.byteorder.specs.Numbers.{big_from-lt}
-use Rattle.heap_model.specs.Bytes.{u16_at, u32_at, AreBytes}
-use Rattle.heap_model.specs.DatabaseFields.{entry_size}
-use Rattle.heap_model.specs.Database.{Database, DatabaseHeader, Entry, a_record, a_resource, database_in, entry_bytes, entry_count_in, entry_data, entry_offset, fields_behind_name, has_resources, header_in, resources_in}
-use Rattle.heap_model.specs.Files.{HasNoFault, blocks_in, block_bytes, block_size, entries_end, offsets_in}
+use Rattle.file_parts.proofs.Words.{◌≡◌, ℕ, suc, ◌+◌, ◌*◌, ◌-◌, ◌^◌, ◌<◌, ◌≤◌, Bool, true, false, Option, None, List, [], ◌∷◌, ◌++◌, length, get_or, take, drop, map, refl, sym, ap, ◌∙◌, arith, inl, inr, append_assoc, ◌&&◌, ◌==◌, nat_lt, filter, slice_index, AllZip, concat, flat_map, and_parts, cases_eq, ltb-true, length-drop, length-take, drop-drop, take-append-drop, big_from-lt, u16_at, u32_at, AreBytes, entry_size, Database, DatabaseHeader, Entry, a_record, a_resource, database_in, entry_bytes, entry_count_in, entry_data, entry_offset, fields_behind_name, has_resources, header_in, resources_in, HasNoFault, blocks_in, block_bytes, block_size, entries_end, offsets_in, entries_upto, fields_back, length-entries_in, filler_in, first_start, not_truncated, offset_count, AreSorted, zip_long, ExactFile, HasValuesOf, IsExactly, entries_placed, exact_block, exact_blocks, exact_bytes, exact_offset, exact_placed, exact_size, exact_start, is_misplaced, offset_among}
 use Rattle.heap_model.specs.declared.file_fault.FileFault.TheVariants.{Truncated}
-use Rattle.laws_store.proofs.Shapes.{entries_upto, fields_back, length-entries_in}
-use Rattle.pdb_format.specs.Filler.{filler_in, first_start}
-use Rattle.pdb_format.proofs.GoodFiles.{not_truncated, offset_count}
 use Rattle.pdb_format.proofs.LeastOffsets.{first_after, least_most}
-use Rattle.pdb_format.proofs.SortedStarts.{AreSorted}
-use Rattle.pdb_format.proofs.Zips.{zip_long}
-use Rattle.file_parts.specs.Exact.{ExactFile, HasValuesOf, IsExactly, entries_placed, exact_block, exact_blocks, exact_bytes, exact_offset, exact_placed, exact_size, exact_start, is_misplaced, offset_among}
 use Rattle.file_parts.proofs.ExactBlocks.{at_first, at_next, blocks_rest, first_begins, join, none_misplaced, offset_back, ranks_sorted, starts_of, zero_of}
 
 -- ---- the entries, as they were read

@@ -1,18 +1,7 @@
 -- The ranks of the blocks of a file, sorted by where the blocks begin.
-use Rattle.std.proofs.Common.{◌≡◌, ℕ, zero, suc, ◌+◌, ◌*◌, ◌^◌, ◌<◌, Bool, true, false, cond, List, [], ◌∷◌, ◌++◌, length, get_or, map, refl, sym, ap, subst, ◌∙◌, arith}
-use Rattle.std.specs.Prelude.{nat_lt, filter, slice_index}
-use Rattle.std.specs.List.{All, range_with_len}
-use Rattle.std.specs.List.Sorted.{IsPermutation, IsNonDecreasingBy}
-use Rattle.std.proofs.lemmas.Bool.{lt-ltb, le-ltb}
-use Rattle.std.proofs.lemmas.List.{append-nil, length-map, get_or-map}
-use Rattle.std.proofs.lemmas.List.Elements.{All-filter}
-use Rattle.std.proofs.lemmas.List.FromFn.{filter_of_map_range_with_len_more, get_or-map-range_with_len, length-map-range_with_len}
-use Rattle.std.proofs.lemmas.List.Sorted.{All-permutation, IsPermutation-map}
-use Rattle.pdb_format.specs.Starts.{start_of, is_block_there, order}
-use Rattle.pdb_format.proofs.SortedStarts.{none}
-use Rattle.file_parts.specs.Exact.{IsOrderOf}
-use Rattle.file_parts.specs.ExactUnpacking.{block_order, block_starts}
-use Rattle.file_parts.specs.declared.exact_unpacked.BlockStart.{BlockStart}
+use Rattle.file_parts.proofs.Words.{◌≡◌, ℕ, zero, suc, ◌+◌, ◌*◌, ◌^◌, ◌<◌, Bool, true, false, cond, List, [], ◌∷◌, ◌++◌, length, get_or, map, refl, sym, ap, subst, ◌∙◌, arith, nat_lt, filter, slice_index, range_with_len, IsPermutation, IsNonDecreasingBy, lt-ltb, le-ltb, length-map, get_or-map, All-filter, filter_of_map_range_with_len_more, get_or-map-range_with_len, length-map-range_with_len, All-permutation, IsPermutation-map, start_of, is_block_there, order, none, IsOrderOf, block_order, block_starts, BlockStart}
+use Rattle.std.specs.List.{All}
+use Rattle.std.proofs.lemmas.List.{append-nil}
 use Rattle.file_parts.proofs.ExactBlocks.{Start}
 
 abbrev there : BlockStart → Bool

@@ -1,20 +1,7 @@
 -- The parts of an exact file, as they are written one after the other.
-use Rattle.std.proofs.Common.{◌≡◌, ℕ, ◌+◌, ◌<◌, ◌≤◌, ◌++◌, Bool, true, false, Option, None, List, [], ◌∷◌, length, get_or, drop, refl, sym, ap, subst, ◌∙◌, arith, append_assoc, add-one, drop-cons}
-use Rattle.std.specs.List.{concat, flat_map}
-use Rattle.std.proofs.lemmas.List.{drop_all}
-use Rattle.heap_model.specs.Lists.{times}
-use Rattle.heap_model.specs.Database.{Entry, a_record, data_in, entry_bytes, entry_with, fields_behind_name}
-use Rattle.heap_model.specs.Files.{block_bytes}
-use Rattle.laws_store.proofs.Times.{contained-times, times-some}
-use Rattle.palm_text.specs.Counted.{Writing, Writes}
-use Rattle.palm_text.proofs.Parts.{then, stops}
-use Rattle.file_parts.specs.declared.packing.PackFault.{PackFault}
+use Rattle.file_parts.proofs.Words.{◌≡◌, ℕ, ◌+◌, ◌<◌, ◌≤◌, ◌++◌, Bool, true, false, Option, None, List, [], ◌∷◌, length, get_or, drop, refl, sym, ap, subst, ◌∙◌, arith, append_assoc, add-one, drop-cons, concat, flat_map, drop_all, times, Entry, a_record, data_in, entry_bytes, entry_with, fields_behind_name, block_bytes, contained-times, times-some, Writing, Writes, then, stops, PackFault, ExactFile, exact_block, exact_blocks, exact_bytes, exact_offset, exact_placed, exact_size, exact_start, exact_tail, AreOffsets, HasValuesAt, IsOrdered, IsPlaceFault, IsRefusedFor}
 use Rattle.file_parts.specs.declared.packing.PackFault.TheVariants as packs
 use Rattle.file_parts.specs.declared.exact_writing.PlaceFault.TheVariants.{TooLarge}
-use Rattle.file_parts.specs.Exact.{ExactFile, exact_block, exact_blocks, exact_bytes, exact_offset, exact_placed, exact_size, exact_start, exact_tail}
-use Rattle.file_parts.specs.ExactListed.{AreOffsets}
-use Rattle.file_parts.specs.ExactWriting.{HasValuesAt, IsOrdered, IsPlaceFault}
-use Rattle.file_parts.specs.Packing.{IsRefusedFor}
 use Rattle.file_parts.proofs.ExactOffsets.{length-placed, placed_at}
 use Rattle.file_parts.proofs.ExactPlaces.{ArePlaced, blocks_of}
 use Rattle.file_parts.proofs.ExactRanks.{get_or-same, rest_from}

@@ -1,14 +1,5 @@
 -- The text of a folder, by what its first line is.
-use Rattle.std.proofs.Common.{◌≡◌, ℕ, true, false, Option, Some, None, List, refl, sym, ap, subst, ◌∙◌}
-use Rattle.std.specs.Prelude.{Result, Ok, Err}
-use Rattle.std.specs.Str.Lines.{lines}
-use Rattle.script_lines.specs.declared.fault.LineFault.{LineFault}
-use Rattle.file_parts.specs.Left.{Left, left}
-use Rattle.file_parts.specs.Reading.{read_database}
-use Rattle.file_parts.specs.ExactTexts.{ExactText}
-use Rattle.file_parts.specs.ExactReading.{if_exact, read_exact, read_exact_from, read_exact_line}
-use Rattle.file_parts.specs.Either.{IsCanonicallyRead, IsExactlyRead, IsFaultOf, IsFaultyText, IsReadFrom}
-use Rattle.file_parts.specs.declared.either.ListedFolder.{ListedFolder}
+use Rattle.file_parts.proofs.Words.{◌≡◌, ℕ, true, false, Option, Some, None, List, refl, sym, ap, subst, ◌∙◌, Result, Ok, Err, lines, LineFault, Left, left, read_database, ExactText, if_exact, read_exact, read_exact_from, read_exact_line, IsCanonicallyRead, IsExactlyRead, IsFaultOf, IsFaultyText, IsReadFrom, ListedFolder}
 use Rattle.file_parts.specs.declared.either.ListedFolder.TheVariants as listed
 
 said_exactly : (text : List ℕ) (start rest : Left) → start ≡ left 0 (lines text) → read_exact_line start ≡ Ok (true, rest) → read_exact text ≡ Some (read_exact_from rest)

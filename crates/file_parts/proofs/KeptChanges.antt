@@ -1,32 +1,9 @@
 -- The bytes of a file stay the same exactly if no change is left.
-use Rattle.std.proofs.Common.{◌≡◌, ℕ, suc, ◌+◌, ◌-◌, ◌*◌, ◌^◌, ◌<◌, ◌≤◌, ◌++◌, Bool, true, false, Option, None, List, [], ◌∷◌, length, get_or, map, refl, sym, ap, subst, ◌∙◌, arith, inl, inr}
-use Rattle.std.specs.Prelude.{◌↔◌, ◌&&◌, not, if◌then◌else◌, ⊤, All, IsTrue, IsFalse, replicate}
-use Rattle.std.specs.List.{AllZip, filter_map}
-use Rattle.std.proofs.lemmas.Bool.{cases_lt}
-use Rattle.std.proofs.lemmas.List.{append_cancel_left, length-map}
-use Rattle.std.proofs.lemmas.List.Elements.{All-cons, All-head, All-nil, All-tail}
-use Rattle.heap_model.specs.Bytes.{AreBytes}
-use Rattle.heap_model.specs.UniqueIds.{seed_in, with_seed}
-use Rattle.heap_model.specs.Database.{Database, DatabaseHeader, Entry, a_record, a_resource, data_in, database_in, entry_data, entry_offset, has_resources, header_in, name_field, name_in}
-use Rattle.heap_model.specs.Store.{unique_id, unique_ids}
-use Rattle.heap_model.specs.Files.{HaveIds, IsReadAs, Reads, block_offset, block_size, blocks_in, entries_with_offsets, idle, idle_attributes, idle_entry, offsets_in, with_offsets}
-use Rattle.pdb_format.specs.Filler.{filler_in, written_filler}
-use Rattle.pdb_format.specs.Starts.{order, start_of}
-use Rattle.pdb_format.proofs.ReadOnce.{read_once}
-use Rattle.pdb_format.proofs.SortedStarts.{AreSorted, none}
-use Rattle.pdb_format.proofs.WrittenFiles.{idle_twice}
-use Rattle.pdb_format.proofs.WrittenIds.{header_stays}
-use Rattle.pdb_format.proofs.WrittenOffsets.{running}
+use Rattle.file_parts.proofs.Words.{◌≡◌, ℕ, suc, ◌+◌, ◌-◌, ◌*◌, ◌^◌, ◌<◌, ◌≤◌, ◌++◌, Bool, true, false, Option, None, List, [], ◌∷◌, length, get_or, map, refl, sym, ap, subst, ◌∙◌, arith, inl, inr, ◌↔◌, ◌&&◌, not, if◌then◌else◌, ⊤, All, IsTrue, IsFalse, replicate, AllZip, filter_map, cases_lt, append_cancel_left, length-map, All-cons, All-head, All-nil, All-tail, AreBytes, seed_in, with_seed, Database, DatabaseHeader, Entry, a_record, a_resource, data_in, database_in, entry_data, entry_offset, has_resources, header_in, name_field, name_in, unique_id, unique_ids, HaveIds, IsReadAs, Reads, block_offset, block_size, blocks_in, entries_with_offsets, idle, idle_attributes, idle_entry, offsets_in, with_offsets, filler_in, written_filler, order, start_of, read_once, AreSorted, none, idle_twice, header_stays, running, Known, all_idle, none_busy, seed_stays, rising_running, ExactFile, HasValuesOf, IsExactly, exact_bytes, exact_start, after_name_of, is_rising, order_of, unless_rising, AreChangesLeft, changes_left, kept_exact, Keep}
 use Rattle.canonical_file.specs.Changes.{AreChanges, AreRising, HasPlainFiller, HasPlainName, IsIdle, IsInOrder, KeepsIds, NoneIsBusy, is_none}
 use Rattle.canonical_file.specs.declared.changes.Changes.{Changes}
 use Rattle.canonical_file.proofs.Canonicals.{none_said, said_none}
-use Rattle.canonical_file.proofs.Kept.{Known, all_idle, none_busy, seed_stays}
-use Rattle.canonical_file.proofs.Placed.{rising_running}
 use Rattle.canonical_file.proofs.Rising.{rising_pair}
-use Rattle.file_parts.specs.Exact.{ExactFile, HasValuesOf, IsExactly, exact_bytes, exact_start}
-use Rattle.file_parts.specs.ExactTexts.{after_name_of, is_rising, order_of, unless_rising}
-use Rattle.file_parts.specs.Keeping.{AreChangesLeft, changes_left, kept_exact}
-use Rattle.file_parts.specs.declared.keep.Keep.{Keep}
 use Rattle.file_parts.proofs.ExactBlocks.{place_of, start_at, starts_of}
 use Rattle.file_parts.proofs.ExactRanks.{order_back}
 use Rattle.file_parts.proofs.ExactRising.{rising_all}

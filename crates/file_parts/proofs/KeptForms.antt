@@ -1,17 +1,5 @@
 -- A file of which nothing is kept is in canonical form.
-use Rattle.std.proofs.Common.{◌≡◌, ℕ, ◌-◌, ◌++◌, Bool, true, false, Option, List, [], ◌∷◌, length, map, refl, sym, ap, ◌∙◌}
-use Rattle.std.specs.Prelude.{◌||◌, not, IsTrue, replicate}
-use Rattle.std.specs.List.{AllZip}
-use Rattle.heap_model.specs.Database.{Database, DatabaseHeader, Entry, a_record, a_resource, data_in, database_in, spelled}
-use Rattle.heap_model.specs.Files.{IsReadAs, Reads, file_of, first_block, idle, idle_attributes, idle_entry, with_offsets}
-use Rattle.pdb_format.specs.Filler.{written_filler}
-use Rattle.pdb_format.proofs.WrittenFiles.{idle_twice}
-use Rattle.pdb_format.proofs.WrittenOffsets.{all_bytes}
-use Rattle.canonical_file.specs.Canonical.{IsCanonical}
-use Rattle.file_parts.specs.Exact.{ExactFile, IsExactly, exact_bytes}
-use Rattle.file_parts.specs.ExactTexts.{order_of}
-use Rattle.file_parts.specs.Keeping.{keeps_nothing, kept_exact}
-use Rattle.file_parts.specs.declared.keep.Keep.{Keep}
+use Rattle.file_parts.proofs.Words.{◌≡◌, ℕ, ◌-◌, ◌++◌, Bool, true, false, Option, List, [], ◌∷◌, length, map, refl, sym, ap, ◌∙◌, ◌||◌, not, IsTrue, replicate, AllZip, Database, DatabaseHeader, Entry, a_record, a_resource, data_in, database_in, spelled, IsReadAs, Reads, file_of, first_block, idle, idle_attributes, idle_entry, with_offsets, written_filler, idle_twice, all_bytes, IsCanonical, ExactFile, IsExactly, exact_bytes, order_of, keeps_nothing, kept_exact, Keep}
 use Rattle.file_parts.proofs.KeptBlocks.{bytes_listed}
 use Rattle.file_parts.proofs.PackedBack.{zip_idle}
 

@@ -1,30 +1,5 @@
 -- A file that keeps some things is read back as this file.
-use Rattle.std.proofs.Common.{◌≡◌, ℕ, suc, ◌+◌, ◌^◌, ◌<◌, ◌≤◌, Bool, true, false, Option, None, List, [], ◌∷◌, length, get_or, map, refl, sym, ap, subst, ◌∙◌, arith}
-use Rattle.std.specs.Prelude.{All, ◌==◌, ◌&&◌, if◌then◌else◌, nat_lt, is_some, slice_index}
-use Rattle.std.specs.List.{AllZip, filter_map, range_with_len}
-use Rattle.std.proofs.lemmas.Bool.{and_from, and_parts, ltb-true}
-use Rattle.std.proofs.lemmas.Nat.{and_le_l}
-use Rattle.std.proofs.lemmas.List.{length-map}
-use Rattle.std.proofs.lemmas.List.Elements.{All-head, All-tail, All-nil, All-cons}
-use Rattle.heap_model.specs.Bytes.{AreBytes}
-use Rattle.heap_model.specs.Lists.{times}
-use Rattle.heap_model.specs.UniqueIds.{greatest_id}
-use Rattle.heap_model.specs.Database.{Database, DatabaseHeader, Entry, HeaderFits, IsDatabaseName, a_record, a_resource, data_in, database_in, entry_data, has_resources, header_in, is_deleted}
-use Rattle.heap_model.specs.Store.{unique_id}
-use Rattle.heap_model.specs.Files.{IsReadAs, block_size, blocks_in, idle, idle_entry}
-use Rattle.laws_store.proofs.Times.{contained-times, distinct-times, times-some}
-use Rattle.pdb_format.specs.Writable.{IsWritableEntry}
-use Rattle.pdb_format.proofs.FileBlocks.{block_count}
-use Rattle.pdb_format.proofs.GoodFiles.{offset_count}
-use Rattle.pdb_format.proofs.WrittenFiles.{still_deleted}
-use Rattle.pdb_format.proofs.Zips.{zip_long}
-use Rattle.canonical_file.specs.Canonical.{most_bytes}
-use Rattle.canonical_file.proofs.Kept.{Known, fits_seeded}
-use Rattle.canonical_file.proofs.Placed.{same_head}
-use Rattle.file_parts.specs.Exact.{ExactFile, HasValuesOf, IsExactly, exact_bytes, exact_size}
-use Rattle.file_parts.specs.ExactTexts.{after_name_of, is_other, order_of}
-use Rattle.file_parts.specs.Keeping.{KeepsParts, kept_exact}
-use Rattle.file_parts.specs.declared.keep.Keep.{Keep}
+use Rattle.file_parts.proofs.Words.{◌≡◌, ℕ, suc, ◌+◌, ◌^◌, ◌<◌, ◌≤◌, Bool, true, false, Option, None, List, [], ◌∷◌, length, get_or, map, refl, sym, ap, subst, ◌∙◌, arith, All, ◌==◌, ◌&&◌, if◌then◌else◌, nat_lt, is_some, slice_index, AllZip, filter_map, range_with_len, and_from, and_parts, ltb-true, and_le_l, length-map, All-head, All-tail, All-nil, All-cons, AreBytes, times, greatest_id, Database, DatabaseHeader, Entry, HeaderFits, IsDatabaseName, a_record, a_resource, data_in, database_in, entry_data, has_resources, header_in, is_deleted, unique_id, IsReadAs, block_size, blocks_in, idle, idle_entry, contained-times, distinct-times, times-some, IsWritableEntry, block_count, offset_count, still_deleted, zip_long, most_bytes, Known, fits_seeded, same_head, ExactFile, HasValuesOf, IsExactly, exact_bytes, exact_size, after_name_of, is_other, order_of, KeepsParts, kept_exact, Keep}
 use Rattle.file_parts.proofs.ExactBlocksBack.{times_in}
 use Rattle.file_parts.proofs.ExactFits.{all_writable, count_small, database_same, file_header, file_name}
 use Rattle.file_parts.proofs.ExactHeadBack.{AreAfter}

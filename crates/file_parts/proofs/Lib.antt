@@ -1,3 +1,4 @@
+pub mod Words
 pub mod EntryLines
 pub mod GoodWords
 pub mod ListedEntries
@@ -47,3 +48,4 @@ pub mod KeptChanges
 pub mod KeptSound
 pub mod KeptSources
 pub mod PackedStarts
+pub mod Laws
