@@ -1,5 +1,5 @@
 -- The lines `order` of a text are read one by one.
-use Rattle.file_parts.proofs.Words.{◌≡◌, ℕ, zero, suc, ◌<◌, ◌≤◌, Option, Some, None, List, [], ◌∷◌, ◌++◌, length, refl, sym, ap, subst, arith, Ok, Err, Result, codes, option_map, option_and_then, option_map_or, words_of, LineFault, ScriptFault, BadWord, Left, only_word, words_after, Read, fault_in, next_of, then_read, next_order, only_word_at, read_order, read_order_line, spelled_rank, value_if, words_and, OrderLine}
+use Rattle.file_parts.proofs.AllWords.{◌≡◌, ℕ, zero, suc, ◌<◌, ◌≤◌, Option, Some, None, List, [], ◌∷◌, ◌++◌, length, refl, sym, ap, subst, arith, Ok, Err, Result, codes, option_map, option_and_then, option_map_or, words_of, LineFault, ScriptFault, BadWord, Left, only_word, words_after, Read, fault_in, next_of, then_read, next_order, only_word_at, read_order, read_order_line, spelled_rank, value_if, words_and, OrderLine}
 use Rattle.file_parts.proofs.ListedEntries.{next_shorter}
 
 -- What is read of a line that may be left out: nothing, and no line; or a value or a fault, of a

@@ -1,5 +1,5 @@
 -- The bytes after the name of a file.
-use Rattle.file_parts.proofs.Words.{◌≡◌, ℕ, suc, ◌+◌, ◌-◌, ◌<◌, ◌≤◌, Bool, true, false, None, List, [], ◌∷◌, ◌++◌, length, get_or, take, refl, sym, ap, subst, ◌∙◌, arith, inl, inr, length-append, ◌==◌, not, replicate, list_all, prefix_len, cases_eq, eq-eqb, ne_eqb, get_or-take, length-take, length-take-le, prefix_len_stops, get_or-append_seam, AreBytes, IsDatabaseName, name_in, after_name_of, unless_zeros, after_name_fault, is_after_name}
+use Rattle.file_parts.proofs.AllWords.{◌≡◌, ℕ, suc, ◌+◌, ◌-◌, ◌<◌, ◌≤◌, Bool, true, false, None, List, [], ◌∷◌, ◌++◌, length, get_or, take, refl, sym, ap, subst, ◌∙◌, arith, inl, inr, length-append, ◌==◌, not, replicate, list_all, prefix_len, cases_eq, eq-eqb, ne_eqb, get_or-take, length-take, length-take-le, prefix_len_stops, get_or-append_seam, AreBytes, IsDatabaseName, name_in, after_name_of, unless_zeros, after_name_fault, is_after_name}
 use Rattle.file_parts.proofs.PartsBack.{front_bytes}
 use Rattle.file_parts.proofs.ExactHeads.{all_zeros}
 use Rattle.file_parts.proofs.ExactTextBack.{IsAfter, after_at}

@@ -1,5 +1,5 @@
 -- Where blocks begin that come in an order, one after the other, and the entries with their offsets.
-use Rattle.file_parts.proofs.Words.{◌≡◌, ℕ, zero, suc, ◌+◌, ◌<◌, Bool, true, false, Option, List, [], ◌∷◌, ◌++◌, length, get_or, refl, ap, ◌∙◌, arith, length-append, ◌==◌, flat_map, eq-eqb, ne_eqb, times, Entry, a_record, a_resource, entry_with, block_bytes, block_size, same-yes, times-cons, entries_placed, offset_among}
+use Rattle.file_parts.proofs.AllWords.{◌≡◌, ℕ, zero, suc, ◌+◌, ◌<◌, Bool, true, false, Option, List, [], ◌∷◌, ◌++◌, length, get_or, refl, ap, ◌∙◌, arith, length-append, ◌==◌, flat_map, eq-eqb, ne_eqb, times, Entry, a_record, a_resource, entry_with, block_bytes, block_size, same-yes, times-cons, entries_placed, offset_among}
 
 -- the block of one more rank begins after the others
 pub offset_last : (block : ℕ → Option (List ℕ)) (at : ℕ) (ranks : List ℕ) (rank : ℕ) → times rank ranks ≡ 0 → offset_among block at (ranks ++ rank ∷ []) rank ≡ at + length (flat_map (λ r. block_bytes (block r)) ranks)

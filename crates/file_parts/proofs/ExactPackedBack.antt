@@ -1,5 +1,5 @@
 -- The file that is put together from an exact folder is read back as the folder's.
-use Rattle.file_parts.proofs.Words.{◌≡◌, ℕ, zero, suc, ◌+◌, ◌-◌, ◌<◌, ◌≤◌, Bool, true, false, Option, Some, None, List, [], length, get_or, map, refl, sym, ap, subst, ◌∙◌, arith, inl, inr, length-append, ◌⊎◌, ◌==◌, ◌&&◌, ◌||◌, nat_lt, filter, is_some, option_map, replicate, slice_index, range_with_len, and_from, and_parts, cases_eq, cases_lt, eq-eqb, eqb-true, ltb-true, get_or_past, get_or-append_right, get_or-replicate, length-map, length-replicate, times, data_in, has_resources, block_size, times-append, most_bytes, BadWord, AfterName, OrderLine, ListedExact, database_listed, entries_listed, filled, part_at, fault_in, ExactFile, IsExactly, exact_block, exact_size, is_misplaced, after_name_of, is_other, after_name_fault, is_after_name, HasExactParts, IsExactlyPacked, exact_packed}
+use Rattle.file_parts.proofs.AllWords.{◌≡◌, ℕ, zero, suc, ◌+◌, ◌-◌, ◌<◌, ◌≤◌, Bool, true, false, Option, Some, None, List, [], length, get_or, map, refl, sym, ap, subst, ◌∙◌, arith, inl, inr, length-append, ◌⊎◌, ◌==◌, ◌&&◌, ◌||◌, nat_lt, filter, is_some, option_map, replicate, slice_index, range_with_len, and_from, and_parts, cases_eq, cases_lt, eq-eqb, eqb-true, ltb-true, get_or_past, get_or-append_right, get_or-replicate, length-map, length-replicate, times, data_in, has_resources, block_size, times-append, most_bytes, BadWord, AfterName, OrderLine, ListedExact, database_listed, entries_listed, filled, part_at, fault_in, ExactFile, IsExactly, exact_block, exact_size, is_misplaced, after_name_of, is_other, after_name_fault, is_after_name, HasExactParts, IsExactlyPacked, exact_packed}
 use Rattle.file_parts.proofs.ExactBlocksBack.{times_in}
 use Rattle.file_parts.proofs.ExactHeadBack.{AreAfter}
 use Rattle.file_parts.proofs.ExactInside.{inside_some, named_some, ranks_once, times_not}

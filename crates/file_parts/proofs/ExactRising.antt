@@ -1,5 +1,5 @@
 -- Ranks in list order: none is lower than the one before it.
-use Rattle.file_parts.proofs.Words.{◌≡◌, ℕ, suc, ◌-◌, ◌<◌, ◌≤◌, true, false, List, [], ◌∷◌, length, get_or, refl, sym, ap, le-leb, subst, ◌∙◌, arith, inl, inr, nat_lt, cases_lt, lt-ltb, ltb-true, is_rising}
+use Rattle.file_parts.proofs.AllWords.{◌≡◌, ℕ, suc, ◌-◌, ◌<◌, ◌≤◌, true, false, List, [], ◌∷◌, length, get_or, refl, sym, ap, le-leb, subst, ◌∙◌, arith, inl, inr, nat_lt, cases_lt, lt-ltb, ltb-true, is_rising}
 use Rattle.file_parts.proofs.ExactRanks.{not_true, rising_at, true_false}
 
 pub rising_all : (xs : List ℕ) → ((i : ℕ) → suc i < length xs → get_or xs i 0 ≤ get_or xs (suc i) 0) → is_rising xs ≡ true

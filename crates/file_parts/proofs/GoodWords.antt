@@ -1,5 +1,5 @@
 -- The values of words that are good.
-use Rattle.file_parts.proofs.Words.{◌≡◌, ◌<◌, ℕ, Bool, true, false, Option, Some, None, List, refl, arith, Ok, nat_lt, option_and_then, below, IsGoodWord, unless_missing, spelled_part, part_or}
+use Rattle.file_parts.proofs.AllWords.{◌≡◌, ◌<◌, ℕ, Bool, true, false, Option, Some, None, List, refl, arith, Ok, nat_lt, option_and_then, below, IsGoodWord, unless_missing, spelled_part, part_or}
 
 pub good_value : {A : Type 0} (number : ℕ) (value : Option A) (x : A) → IsGoodWord number value (Ok x) → value ≡ Some x
 good_value number None x is = absurd cc

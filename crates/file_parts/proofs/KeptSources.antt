@@ -1,5 +1,5 @@
 -- A file that keeps some things, as it is laid out and written.
-use Rattle.file_parts.proofs.Words.{◌≡◌, ℕ, ◌+◌, ◌-◌, ◌<◌, ◌≤◌, ◌++◌, Bool, true, false, cond, Option, None, List, [], length, get_or, map, drop, inl, inr, refl, sym, ap, subst, ◌∙◌, arith, ◌==◌, ◌⊎◌, if◌then◌else◌, IsFalse, IsTrue, is_some, range_with_len, IsPermutation, IsNonDecreasing, and_from, and_parts, get_or-map, length-drop, length-map, length-take, fill_by_all, get_or-map-range_with_len, length-map-range_with_len, sum_by-IsPermutation, AreBytes, u24_at, times, seed_in, Database, DatabaseHeader, Entry, a_record, a_resource, data_in, database_in, entry_at, entry_count_in, entry_offset, entry_with, has_resources, header_in, name_field, name_in, resources_in, unique_ids, blocks_in, entries_end, idle, idle_attributes, idle_entry, contained-times, times-distinct, times-some, filler_in, first_start, written_filler, database_read, entry_read, entry_read_at, header_read, not_truncated, blocks_read_are, entry_read_is, length-entries_read, header_stays, most_bytes, Known, ExactFile, IsExactly, exact_block, exact_bytes, exact_database, exact_entry, exact_in, exact_size, exact_start, after_name_of, is_other, order_of, AreExactPlaces, HasValuesAt, IsOrdered, IsPlaceFault, KeepsParts, kept_exact, PlaceFault, Keep}
+use Rattle.file_parts.proofs.AllWords.{◌≡◌, ℕ, ◌+◌, ◌-◌, ◌<◌, ◌≤◌, ◌++◌, Bool, true, false, cond, Option, None, List, [], length, get_or, map, drop, inl, inr, refl, sym, ap, subst, ◌∙◌, arith, ◌==◌, ◌⊎◌, if◌then◌else◌, IsFalse, IsTrue, is_some, range_with_len, IsPermutation, IsNonDecreasing, and_from, and_parts, get_or-map, length-drop, length-map, length-take, fill_by_all, get_or-map-range_with_len, length-map-range_with_len, sum_by-IsPermutation, AreBytes, u24_at, times, seed_in, Database, DatabaseHeader, Entry, a_record, a_resource, data_in, database_in, entry_at, entry_count_in, entry_offset, entry_with, has_resources, header_in, name_field, name_in, resources_in, unique_ids, blocks_in, entries_end, idle, idle_attributes, idle_entry, contained-times, times-distinct, times-some, filler_in, first_start, written_filler, database_read, entry_read, entry_read_at, header_read, not_truncated, blocks_read_are, entry_read_is, length-entries_read, header_stays, most_bytes, Known, ExactFile, IsExactly, exact_block, exact_bytes, exact_database, exact_entry, exact_in, exact_size, exact_start, after_name_of, is_other, order_of, AreExactPlaces, HasValuesAt, IsOrdered, IsPlaceFault, KeepsParts, kept_exact, PlaceFault, Keep}
 use Rattle.canonical_file.specs.Written.{ids_of, seed_of}
 use Rattle.canonical_file.proofs.OwnIds.{own_id}
 use Rattle.file_parts.specs.Kept.{IsKeepFault, IsKeeping, exact_keeping}

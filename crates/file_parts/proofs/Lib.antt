@@ -1,4 +1,4 @@
-pub mod Words
+pub mod AllWords
 pub mod EntryLines
 pub mod GoodWords
 pub mod ListedEntries
@@ -48,4 +48,4 @@ pub mod KeptChanges
 pub mod KeptSound
 pub mod KeptSources
 pub mod PackedStarts
-pub mod Laws
+pub mod AllLaws

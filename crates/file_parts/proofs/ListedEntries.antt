@@ -1,5 +1,5 @@
 -- The entries of a listed database, and the lines that are left.
-use Rattle.file_parts.proofs.Words.{◌≡◌, ℕ, ◌+◌, ◌<◌, Bool, true, false, Option, Some, None, List, [], ◌∷◌, ◌++◌, length, get_or, map, refl, ap, ◌∙◌, arith, All, Ok, All-head, All-tail, All-nil, All-cons, length-map, get_or-map, Entry, entry_data, entry_with, DbEntry, Record, Resource, entry_of, is_passed_over, ListedEntry, Left, left, entry_listed, entries_listed, next_of, one_more, unless_bad, read_entries}
+use Rattle.file_parts.proofs.AllWords.{◌≡◌, ℕ, ◌+◌, ◌<◌, Bool, true, false, Option, Some, None, List, [], ◌∷◌, ◌++◌, length, get_or, map, refl, ap, ◌∙◌, arith, All, Ok, All-head, All-tail, All-nil, All-cons, length-map, get_or-map, Entry, entry_data, entry_with, DbEntry, Record, Resource, entry_of, is_passed_over, ListedEntry, Left, left, entry_listed, entries_listed, next_of, one_more, unless_bad, read_entries}
 
 part_listed : (listed : ListedEntry) → entry_data (entry_listed listed) ≡ listed.part
 part_listed listed = by_kind listed.entry where

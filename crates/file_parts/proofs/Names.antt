@@ -1,5 +1,5 @@
 -- The names of databases, as tests.
-use Rattle.file_parts.proofs.Words.{◌≡◌, ◌<◌, ℕ, Bool, true, false, Option, Some, None, List, [], ◌∷◌, length, refl, sym, ap, subst, ◌∙◌, arith, All, ◌&&◌, nat_lt, SomeIff, list_all, and_parts, All-head, All-tail, All-nil, All-cons, IsDatabaseName, is_name, name_if}
+use Rattle.file_parts.proofs.AllWords.{◌≡◌, ◌<◌, ℕ, Bool, true, false, Option, Some, None, List, [], ◌∷◌, length, refl, sym, ap, subst, ◌∙◌, arith, All, ◌&&◌, nat_lt, SomeIff, list_all, and_parts, All-head, All-tail, All-nil, All-cons, IsDatabaseName, is_name, name_if}
 
 positive : (xs : List ℕ) → All (λ byte. 0 < byte) xs → list_all (nat_lt 0) xs ≡ true
 positive [] all = refl

@@ -1,5 +1,5 @@
 -- A file that is taken apart is put together as its canonical form.
-use Rattle.file_parts.proofs.Words.{◌≡◌, ◌≢◌, ℕ, suc, ◌+◌, ◌^◌, ◌<◌, ◌≤◌, Bool, true, false, Option, None, List, [], ◌∷◌, length, map, get_or, refl, sym, ap, subst, ◌∙◌, arith, All, AllZip, and_le_l, big_from-lt, AreBytes, u16_at, u32_at, Distinct, greatest_id, Database, Entry, a_record, a_resource, IsDatabaseName, HeaderFits, has_resources, header_in, resources_in, entry_count_in, entry_at, entry_in, entry_offset, unique_ids, HasNoFault, Reads, blocks_in, idle, idle_entry, file_of, size_of_block, header_fits, HasPlaces, Block, IsWritableEntry, HasFile, entry_read, entries_read, database_read, HasIdsFor, file_named, none_planned, record_block, resource_block, not_truncated, length-entries_read, entry_read_is, ids_read, blocks_read_are, read_once, still_deleted, file_reads, idle_file, idle_twice, all_bytes, IsCanonical, fits_seeded, IsUnpacked, database_of, PacksBack}
+use Rattle.file_parts.proofs.AllWords.{◌≡◌, ◌≢◌, ℕ, suc, ◌+◌, ◌^◌, ◌<◌, ◌≤◌, Bool, true, false, Option, None, List, [], ◌∷◌, length, map, get_or, refl, sym, ap, subst, ◌∙◌, arith, All, AllZip, and_le_l, big_from-lt, AreBytes, u16_at, u32_at, Distinct, greatest_id, Database, Entry, a_record, a_resource, IsDatabaseName, HeaderFits, has_resources, header_in, resources_in, entry_count_in, entry_at, entry_in, entry_offset, unique_ids, HasNoFault, Reads, blocks_in, idle, idle_entry, file_of, size_of_block, header_fits, HasPlaces, Block, IsWritableEntry, HasFile, entry_read, entries_read, database_read, HasIdsFor, file_named, none_planned, record_block, resource_block, not_truncated, length-entries_read, entry_read_is, ids_read, blocks_read_are, read_once, still_deleted, file_reads, idle_file, idle_twice, all_bytes, IsCanonical, fits_seeded, IsUnpacked, database_of, PacksBack}
 use Rattle.canonical_file.proofs.BlockTexts.{blocks_long}
 use Rattle.canonical_file.proofs.Headers.{first_is}
 use Rattle.file_parts.specs.declared.unpacked.Unpacked.{Unpacked}

@@ -1,5 +1,5 @@
 -- The offsets of the blocks of a packed database, and the blocks one after the other.
-use Rattle.file_parts.proofs.Words.{◌≡◌, ℕ, zero, suc, ◌+◌, ◌<◌, ◌≤◌, Option, None, List, [], ◌∷◌, ◌++◌, length, get_or, drop, map, refl, sym, ap, ◌∙◌, arith, add-one, drop-cons, length-map, drop_all, Database, entry_data, data_in, block_bytes, block_size, first_block, file_size, all_bytes, size_more, Listed, PackFault, TooLarge, BadLine, OutOfMemory, database_listed, IsRefusedFor, filled, part_at, database_of_parts, with_parts}
+use Rattle.file_parts.proofs.AllWords.{◌≡◌, ℕ, zero, suc, ◌+◌, ◌<◌, ◌≤◌, Option, None, List, [], ◌∷◌, ◌++◌, length, get_or, drop, map, refl, sym, ap, ◌∙◌, arith, add-one, drop-cons, length-map, drop_all, Database, entry_data, data_in, block_bytes, block_size, first_block, file_size, all_bytes, size_more, Listed, PackFault, TooLarge, BadLine, OutOfMemory, database_listed, IsRefusedFor, filled, part_at, database_of_parts, with_parts}
 use Rattle.file_parts.proofs.PackedEntries.{block_filled, length-filled}
 
 -- a larger file is refused as well

@@ -1,5 +1,5 @@
 -- The text and the parts of a database give it back.
-use Rattle.file_parts.proofs.Words.{◌≡◌, ℕ, zero, suc, ◌+◌, ◌/◌, ◌%◌, ◌^◌, ◌<◌, ◌≤◌, Bool, true, false, Option, Some, None, List, [], ◌∷◌, ◌++◌, length, map, take, refl, sym, ap, ◌∙◌, arith, append_assoc, append-nil, length-append, All, Ok, ◌==◌, AllZip, get_or-append_seam, decimal_digit, All-head, All-tail, All-nil, All-cons, AreBytes, Database, DatabaseHeader, Entry, a_record, a_resource, entry_data, entry_with, data_in, has_resources, name_in, IsDatabaseName, HeaderFits, block_bytes, IsWritableEntry, HasFile, app_name, sort_name, entry_name, name_if_data, named_entries, with_names, database_text, begins_name, is_name_byte, spelled_part, read_database, filled, part_at, filled_entries, with_parts, IsPartName, IsNamedEntry, HasText}
+use Rattle.file_parts.proofs.AllWords.{◌≡◌, ℕ, zero, suc, ◌+◌, ◌/◌, ◌%◌, ◌^◌, ◌<◌, ◌≤◌, Bool, true, false, Option, Some, None, List, [], ◌∷◌, ◌++◌, length, map, take, refl, sym, ap, ◌∙◌, arith, append_assoc, append-nil, length-append, All, Ok, ◌==◌, AllZip, get_or-append_seam, decimal_digit, All-head, All-tail, All-nil, All-cons, AreBytes, Database, DatabaseHeader, Entry, a_record, a_resource, entry_data, entry_with, data_in, has_resources, name_in, IsDatabaseName, HeaderFits, block_bytes, IsWritableEntry, HasFile, app_name, sort_name, entry_name, name_if_data, named_entries, with_names, database_text, begins_name, is_name_byte, spelled_part, read_database, filled, part_at, filled_entries, with_parts, IsPartName, IsNamedEntry, HasText}
 use Rattle.file_parts.proofs.Names.{name_good}
 use Rattle.file_parts.proofs.TextLaws.{texts_are_read}
 

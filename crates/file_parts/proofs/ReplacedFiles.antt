@@ -1,5 +1,5 @@
 -- The file that is written when a block is replaced: its blocks, its entries and its bytes.
-use Rattle.file_parts.proofs.Words.{◌≡◌, ℕ, ◌+◌, ◌<◌, ◌≤◌, Option, None, List, length, get_or, refl, sym, ap, subst, ◌∙◌, arith, eq-eqb, ne_eqb, times, Entry, a_record, a_resource, data_in, entry_count_in, entry_in, entry_with, entry_offset, has_resources, block_bytes, blocks_in, entries_end, offsets_in, distinct-times, filler_in, block_count, offset_count, AreSorted, Replacing, ExactFile, IsExactly, exact_block, exact_database, exact_entry, exact_start, exact_of, HasValuesAt, IsOrdered, IsReplacing, block_in, block_replaced, exact_replacing}
+use Rattle.file_parts.proofs.AllWords.{◌≡◌, ℕ, ◌+◌, ◌<◌, ◌≤◌, Option, None, List, length, get_or, refl, sym, ap, subst, ◌∙◌, arith, eq-eqb, ne_eqb, times, Entry, a_record, a_resource, data_in, entry_count_in, entry_in, entry_with, entry_offset, has_resources, block_bytes, blocks_in, entries_end, offsets_in, distinct-times, filler_in, block_count, offset_count, AreSorted, Replacing, ExactFile, IsExactly, exact_block, exact_database, exact_entry, exact_start, exact_of, HasValuesAt, IsOrdered, IsReplacing, block_in, block_replaced, exact_replacing}
 use Rattle.file_parts.proofs.ExactBlocks.{place_of, starts_of}
 use Rattle.file_parts.proofs.ExactRanks.{apart, get_or-same}
 use Rattle.file_parts.proofs.ExactRead.{blocks_exact, entries_long, exact_entry_is, is_exactly}

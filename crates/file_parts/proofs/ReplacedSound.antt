@@ -1,5 +1,5 @@
 -- A file with a block replaced is read back as this file.
-use Rattle.file_parts.proofs.Words.{◌≡◌, ℕ, ◌+◌, ◌<◌, ◌≤◌, Bool, true, false, Option, None, List, [], ◌∷◌, length, get_or, refl, sym, ap, subst, ◌∙◌, arith, inl, inr, All, IfOk, Result, Ok, Err, ◌==◌, ◌&&◌, nat_lt, is_some, slice_index, and_from, and_parts, cases_lt, eq-eqb, eqb-true, ltb-true, All-head, All-tail, All-nil, All-cons, times, Entry, a_record, a_resource, data_in, entry_with, has_resources, block_size, blocks_in, contained-times, times-some, most_bytes, IsWritableEntry, block_count, offset_count, PlaceFault, IsPlaceFault, Replacing, ExactFile, exact_block, exact_bytes, exact_size, is_misplaced, exact_of, IsReplaced, IsReplacing, IsReplaceFault, Replaces, block_in, block_replaced, entries_replaced, bytes_replaced, exact_replacing, has_block_of_rank, size_fault}
+use Rattle.file_parts.proofs.AllWords.{◌≡◌, ℕ, ◌+◌, ◌<◌, ◌≤◌, Bool, true, false, Option, None, List, [], ◌∷◌, length, get_or, refl, sym, ap, subst, ◌∙◌, arith, inl, inr, All, IfOk, Result, Ok, Err, ◌==◌, ◌&&◌, nat_lt, is_some, slice_index, and_from, and_parts, cases_lt, eq-eqb, eqb-true, ltb-true, All-head, All-tail, All-nil, All-cons, times, Entry, a_record, a_resource, data_in, entry_with, has_resources, block_size, blocks_in, contained-times, times-some, most_bytes, IsWritableEntry, block_count, offset_count, PlaceFault, IsPlaceFault, Replacing, ExactFile, exact_block, exact_bytes, exact_size, is_misplaced, exact_of, IsReplaced, IsReplacing, IsReplaceFault, Replaces, block_in, block_replaced, entries_replaced, bytes_replaced, exact_replacing, has_block_of_rank, size_fault}
 use Rattle.file_parts.specs.declared.replaced.Replaced.{Replaced}
 use Rattle.file_parts.specs.declared.replaced.ReplaceFault.{ReplaceFault}
 use Rattle.file_parts.specs.declared.exact_writing.PlaceFault.TheVariants as places

@@ -1,5 +1,5 @@
 -- A file with one of its blocks replaced.
-use Rattle.file_parts.proofs.Words.{◌≡◌, ℕ, zero, suc, ◌+◌, ◌<◌, Bool, true, false, Option, Some, None, List, [], ◌∷◌, length, get_or, map, refl, sym, ap, ◌∙◌, arith, ◌==◌, eqb-true, get_or-map, length-map, Database, Entry, a_record, a_resource, data_in, entry_data, entry_with, ExactFile, exact_block, block_replaced, entries_replaced, file_replaced}
+use Rattle.file_parts.proofs.AllWords.{◌≡◌, ℕ, zero, suc, ◌+◌, ◌<◌, Bool, true, false, Option, Some, None, List, [], ◌∷◌, length, get_or, map, refl, sym, ap, ◌∙◌, arith, ◌==◌, eqb-true, get_or-map, length-map, Database, Entry, a_record, a_resource, data_in, entry_data, entry_with, ExactFile, exact_block, block_replaced, entries_replaced, file_replaced}
 
 -- ---- its entries
 

@@ -1,5 +1,5 @@
 -- A file that is put together is taken apart as its parts, with the IDs that are given.
-use Rattle.file_parts.proofs.Words.{◌≡◌, ℕ, ◌+◌, ◌<◌, ◌≤◌, Bool, true, false, Option, List, [], ◌∷◌, length, map, refl, sym, ap, subst, ◌∙◌, arith, All, bit_and, AllZip, filter_map, and_le_l, All-head, All-tail, All-nil, All-cons, greatest_id, seed_in, Database, DatabaseHeader, Entry, a_record, a_resource, entry_data, entry_offset, has_resources, is_deleted, IsDatabaseName, HeaderFits, unique_id, unique_ids, kept_ids, idle, idle_attributes, idle_entry, Reads, first_block, file_of, IsWritableEntry, file_size, HasFile, IsKeptAs, IsReadBack, file_reads, idle_twice, read_back, still_deleted, all_bytes, IsCanonical, fits_seeded, UnpacksBack}
+use Rattle.file_parts.proofs.AllWords.{◌≡◌, ℕ, ◌+◌, ◌<◌, ◌≤◌, Bool, true, false, Option, List, [], ◌∷◌, length, map, refl, sym, ap, subst, ◌∙◌, arith, All, bit_and, AllZip, filter_map, and_le_l, All-head, All-tail, All-nil, All-cons, greatest_id, seed_in, Database, DatabaseHeader, Entry, a_record, a_resource, entry_data, entry_offset, has_resources, is_deleted, IsDatabaseName, HeaderFits, unique_id, unique_ids, kept_ids, idle, idle_attributes, idle_entry, Reads, first_block, file_of, IsWritableEntry, file_size, HasFile, IsKeptAs, IsReadBack, file_reads, idle_twice, read_back, still_deleted, all_bytes, IsCanonical, fits_seeded, UnpacksBack}
 use Rattle.file_ids.proofs.GivenLaws.{given_distinct}
 use Rattle.canonical_file.proofs.GivenFit.{given_fit}
 use Rattle.file_parts.proofs.PackedBack.{none_zero, zip_idle}

@@ -1,5 +1,5 @@
 -- Exact files that are listed by values, and values that no file has.
-use Rattle.file_parts.proofs.Words.{◌≡◌, ◌<◌, ◌+◌, ◌++◌, ◌∷◌, [], ℕ, suc, Bool, true, false, Option, Some, None, List, length, take, refl, sym, ap, subst, ◌∙◌, arith, inl, inr, append_assoc, append-nil, Ok, Err, slice_index, map-append, take_more, Database, data_in, LineFault, after_name_fault, exact_with, is_after_name, order_fault, ExactText, is_other, HasBadRank, IsNoExactFile, valued_head, valued_text, OrderLine}
+use Rattle.file_parts.proofs.AllWords.{◌≡◌, ◌<◌, ◌+◌, ◌++◌, ◌∷◌, [], ℕ, suc, Bool, true, false, Option, Some, None, List, length, take, refl, sym, ap, subst, ◌∙◌, arith, inl, inr, append_assoc, append-nil, Ok, Err, slice_index, map-append, take_more, Database, data_in, LineFault, after_name_fault, exact_with, is_after_name, order_fault, ExactText, is_other, HasBadRank, IsNoExactFile, valued_head, valued_text, OrderLine}
 use Rattle.std.specs.Prelude.{map}
 use Rattle.file_parts.proofs.ExactListings.{faulty, said}
 

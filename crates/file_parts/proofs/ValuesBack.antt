@@ -1,5 +1,5 @@
 -- If a file without fault is exactly what is listed by values, no value is refused.
-use Rattle.file_parts.proofs.Words.{◌≡◌, ℕ, ◌+◌, ◌^◌, ◌<◌, Bool, true, false, Option, None, List, [], ◌∷◌, ◌++◌, length, get_or, take, sym, ap, subst, ◌∙◌, arith, inl, inr, length-append, All, filter, is_some, slice_index, range_with_len, get_or_append_left, take-append-le, All-cons, All-head, All-nil, All-tail, AreBytes, Database, Entry, a_record, a_resource, IsDatabaseName, data_in, entry_with, has_resources, IsWritableEntry, block_count, offset_count, filled, filled_entries, part_at, with_parts, IsExactly, exact_database, exact_of_parts, is_other, IsNoExactFile, valued_text}
+use Rattle.file_parts.proofs.AllWords.{◌≡◌, ℕ, ◌+◌, ◌^◌, ◌<◌, Bool, true, false, Option, None, List, [], ◌∷◌, ◌++◌, length, get_or, take, sym, ap, subst, ◌∙◌, arith, inl, inr, length-append, All, filter, is_some, slice_index, range_with_len, get_or_append_left, take-append-le, All-cons, All-head, All-nil, All-tail, AreBytes, Database, Entry, a_record, a_resource, IsDatabaseName, data_in, entry_with, has_resources, IsWritableEntry, block_count, offset_count, filled, filled_entries, part_at, with_parts, IsExactly, exact_database, exact_of_parts, is_other, IsNoExactFile, valued_text}
 use Rattle.file_parts.proofs.ExactFits.{all_writable, count_small, database_same}
 use Rattle.file_parts.proofs.ExactFolders.{names_are}
 use Rattle.file_parts.proofs.ExactNames.{after_right}

@@ -1,5 +1,5 @@
 -- The whole text of a database that is read.
-use Rattle.file_parts.proofs.Words.{◌≡◌, ℕ, List, ◌++◌, None, get_or, ap, codes, DatabaseHeader, blocks_in, header_read, entries_read, database_read, app_name, sort_name, name_if_data, named_entries, with_names, header_lines, info_line, info_lines, entry_lines, body_lines, database_text}
+use Rattle.file_parts.proofs.AllWords.{◌≡◌, ℕ, List, ◌++◌, None, get_or, ap, codes, DatabaseHeader, blocks_in, header_read, entries_read, database_read, app_name, sort_name, name_if_data, named_entries, with_names, header_lines, info_line, info_lines, entry_lines, body_lines, database_text}
 
 -- the lines after those of the header
 abbrev pub rest_of : List ℕ → List ℕ → List ℕ

@@ -1,5 +1,5 @@
 -- Words as they are written, and as they are read: alone, before others, and as values.
-use Rattle.file_parts.proofs.Words.{◌≡◌, ◌<◌, ◌≤◌, ◌+◌, ◌*◌, ◌-◌, ◌/◌, ◌%◌, ◌^◌, zero, suc, ℕ, Bool, true, false, Some, None, List, [], ◌∷◌, ◌++◌, length, get_or, take, drop, refl, ap, ◌∙◌, arith, append_assoc, append-nil, length-append, Ok, ◌&&◌, nat_lt, nat_le, slice_index, decimal, codes, list_all, bytes_eq, lines, strip_carriage_return, take-append_seam, drop-append_seam, and_parts, list_all-append, decimal_by_steps, length-decimal-le, decimal_nonempty, encode_lower, encode_with, hex_digit_value, lower_digits, IsDigits-lower_digits, AreBytes, is_printable, closed, script_quoted, marked_hex, script_spelled, is_blank, words_of, plain_word, quoted_word, with_word, below, digit_value, number_below, number_behind, number_in, spelled_number, texts_are_words}
+use Rattle.file_parts.proofs.AllWords.{◌≡◌, ◌<◌, ◌≤◌, ◌+◌, ◌*◌, ◌-◌, ◌/◌, ◌%◌, ◌^◌, zero, suc, ℕ, Bool, true, false, Some, None, List, [], ◌∷◌, ◌++◌, length, get_or, take, drop, refl, ap, ◌∙◌, arith, append_assoc, append-nil, length-append, Ok, ◌&&◌, nat_lt, nat_le, slice_index, decimal, codes, list_all, bytes_eq, lines, strip_carriage_return, take-append_seam, drop-append_seam, and_parts, list_all-append, decimal_by_steps, length-decimal-le, decimal_nonempty, encode_lower, encode_with, hex_digit_value, lower_digits, IsDigits-lower_digits, AreBytes, is_printable, closed, script_quoted, marked_hex, script_spelled, is_blank, words_of, plain_word, quoted_word, with_word, below, digit_value, number_below, number_behind, number_in, spelled_number, texts_are_words}
 use Rattle.std.proofs.Common.{◌==◌}
 use Rattle.script_lines.proofs.LineLaws.{feed, lines_ended, drop_next}
 

@@ -1,4 +1,4 @@
-use Rattle.file_parts.proofs.Words.{◌≡◌, ◌≤◌, [], length, All, IsGoodEntry, entries_listed, read_entries}
+use Rattle.file_parts.proofs.AllWords.{◌≡◌, ◌≤◌, [], length, All, IsGoodEntry, entries_listed, read_entries}
 use Rattle.file_parts.proofs.entries.read_entries.Given as goal
 
 -- what is read goes on from the entries so far

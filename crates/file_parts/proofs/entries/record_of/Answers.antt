@@ -1,4 +1,4 @@
-use Rattle.file_parts.proofs.Words.{◌^◌, sym, ◌∙◌, spelled_number, number_in}
+use Rattle.file_parts.proofs.AllWords.{◌^◌, sym, ◌∙◌, spelled_number, number_in}
 use Rattle.file_parts.proofs.GoodWords.{good_value, below_small, part_missing}
 use Rattle.file_parts.proofs.entries.record_of.Goals as goal
 

@@ -1,4 +1,4 @@
-use Rattle.file_parts.proofs.Words.{◌≡◌, ◌≤◌, ℕ, [], length, read_order}
+use Rattle.file_parts.proofs.AllWords.{◌≡◌, ◌≤◌, ℕ, [], length, read_order}
 use Rattle.file_parts.proofs.exact_lines.read_order.Given as goal
 
 -- what is read goes on from the lines so far

@@ -1,4 +1,4 @@
-use Rattle.file_parts.proofs.Words.{◌≡◌, [], length, map, take, drop, data_in, database_listed, order_fault, AreMarked}
+use Rattle.file_parts.proofs.AllWords.{◌≡◌, [], length, map, take, drop, data_in, database_listed, order_fault, AreMarked}
 use Rattle.file_parts.proofs.exact_listed.add_named.Given as goal
 
 -- the ranks of the lines so far are added and marked, and the first faulty line is one of the others

@@ -1,4 +1,4 @@
-use Rattle.file_parts.proofs.Words.{◌≡◌, ◌++◌, data_in, database_listed, free_ranks}
+use Rattle.file_parts.proofs.AllWords.{◌≡◌, ◌++◌, data_in, database_listed, free_ranks}
 use Rattle.file_parts.proofs.exact_listed.add_others.Given as goal
 
 -- the ranks without a mark so far are added

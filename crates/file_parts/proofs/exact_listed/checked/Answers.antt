@@ -1,4 +1,4 @@
-use Rattle.file_parts.proofs.Words.{◌≡◌, List, Some, None, [], map, ap, subst, ◌∙◌, data_in, database_listed, order_of, head_of, order_fault, OrderLine}
+use Rattle.file_parts.proofs.AllWords.{◌≡◌, List, Some, None, [], map, ap, subst, ◌∙◌, data_in, database_listed, order_of, head_of, order_fault, OrderLine}
 use Rattle.file_parts.proofs.ExactListings.{all_good, bad_after, bad_order}
 use Rattle.file_parts.proofs.exact_listed.checked.Goals as goal
 

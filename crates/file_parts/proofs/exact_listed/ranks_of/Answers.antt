@@ -1,4 +1,4 @@
-use Rattle.file_parts.proofs.Laws.{◌≡◌, List, ℕ, Option, length, map, sym, subst, arith, rules, data_in, database_listed, AreMarked, ranks_all}
+use Rattle.file_parts.proofs.AllLaws.{◌≡◌, List, ℕ, Option, length, map, sym, subst, arith, rules, data_in, database_listed, AreMarked, ranks_all}
 use Rattle.std.proofs.lemmas.Grind.{common_steps}
 use Rattle.file_parts.proofs.exact_listed.ranks_of.Goals as goal
 

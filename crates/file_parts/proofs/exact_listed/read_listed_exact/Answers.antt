@@ -1,4 +1,4 @@
-use Rattle.file_parts.proofs.Words.{ap, ◌∙◌, IfErr-weaker, IfOk-weaker, unless_head}
+use Rattle.file_parts.proofs.AllWords.{ap, ◌∙◌, IfErr-weaker, IfOk-weaker, unless_head}
 use Rattle.file_parts.proofs.exact_listed.read_listed_exact.Goals as goal
 
 pub returns-in-Ok-clause-ok : goal.returns-in-Ok-clause-ok

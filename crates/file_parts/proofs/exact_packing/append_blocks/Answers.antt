@@ -1,4 +1,4 @@
-use Rattle.file_parts.proofs.Laws.{◌≡◌, ◌<◌, ◌≤◌, ◌++◌, ℕ, List, Option, length, get_or, refl, ap, ◌∙◌, arith, take_all, data_in, database_listed, exact_block, exact_packed, rank_inside, blocks_whole, blocks_of}
+use Rattle.file_parts.proofs.AllLaws.{◌≡◌, ◌<◌, ◌≤◌, ◌++◌, ℕ, List, Option, length, get_or, refl, ap, ◌∙◌, arith, take_all, data_in, database_listed, exact_block, exact_packed, rank_inside, blocks_whole, blocks_of}
 use Rattle.file_parts.proofs.exact_packing.append_blocks.Goals as goal
 
 pub block_of-requires-clause-inside : goal.block_of-requires-clause-inside

@@ -1,4 +1,4 @@
-use Rattle.file_parts.proofs.Words.{◌≡◌, ◌++◌, take, flat_map, block_bytes, exact_block, exact_packed}
+use Rattle.file_parts.proofs.AllWords.{◌≡◌, ◌++◌, take, flat_map, block_bytes, exact_block, exact_packed}
 use Rattle.file_parts.proofs.exact_packing.append_blocks.Given as goal
 
 -- the blocks of the ranks so far are appended

@@ -1,4 +1,4 @@
-use Rattle.file_parts.proofs.Laws.{◌≡◌, ◌+◌, ◌<◌, ◌≤◌, ◌++◌, ℕ, List, length, get_or, refl, sym, ap, ◌∙◌, arith, append-nil, flat_map, Entry, entry_bytes, entry_with, entry_of, ListedEntry, entries_whole, entry_more}
+use Rattle.file_parts.proofs.AllLaws.{◌≡◌, ◌+◌, ◌<◌, ◌≤◌, ◌++◌, ℕ, List, length, get_or, refl, sym, ap, ◌∙◌, arith, append-nil, flat_map, Entry, entry_bytes, entry_with, entry_of, ListedEntry, entries_whole, entry_more}
 use Rattle.file_parts.proofs.exact_packing.append_entries.Goals as goal
 
 pub loop-index-init : goal.loop-index-init

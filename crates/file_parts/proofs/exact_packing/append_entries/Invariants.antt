@@ -1,4 +1,4 @@
-use Rattle.file_parts.proofs.Words.{◌≡◌, ◌++◌, ℕ, List, take, flat_map, entry_bytes, exact_placed, AreOffsets, exact_packed}
+use Rattle.file_parts.proofs.AllWords.{◌≡◌, ◌++◌, ℕ, List, take, flat_map, entry_bytes, exact_placed, AreOffsets, exact_packed}
 use Rattle.file_parts.proofs.exact_packing.append_entries.Given as goal
 
 -- the entries so far are appended

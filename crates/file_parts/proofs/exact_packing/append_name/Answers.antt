@@ -1,4 +1,4 @@
-use Rattle.file_parts.proofs.Laws.{◌≡◌, ◌-◌, ℕ, List, Option, length, drop, take, sym, ap, ◌∙◌, arith, option_map, replicate, drop-replicate, take-replicate, after_name_of, AfterName, appended_twice}
+use Rattle.file_parts.proofs.AllLaws.{◌≡◌, ◌-◌, ℕ, List, Option, length, drop, take, sym, ap, ◌∙◌, arith, option_map, replicate, drop-replicate, take-replicate, after_name_of, AfterName, appended_twice}
 use Rattle.file_parts.proofs.exact_packing.append_name.Goals as goal
 
 -- the zeros after a name of this length

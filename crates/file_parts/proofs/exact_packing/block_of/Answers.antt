@@ -1,4 +1,4 @@
-use Rattle.file_parts.proofs.Laws.{◌<◌, length, ◌∙◌, arith, data_in, database_listed, block_is}
+use Rattle.file_parts.proofs.AllLaws.{◌<◌, length, ◌∙◌, arith, data_in, database_listed, block_is}
 use Rattle.file_parts.proofs.exact_packing.block_of.Goals as goal
 
 pub returns : goal.returns

@@ -1,4 +1,4 @@
-use Rattle.file_parts.proofs.Words.{ℕ, ◌≡◌, false, sym, ◌∙◌, below_more, is_misplaced, exact_packed}
+use Rattle.file_parts.proofs.AllWords.{ℕ, ◌≡◌, false, sym, ◌∙◌, below_more, is_misplaced, exact_packed}
 use Rattle.file_parts.proofs.exact_packing.check_order.Goals as goal
 
 pub loop-index-preserved : goal.loop-index-preserved

@@ -1,4 +1,4 @@
-use Rattle.file_parts.proofs.Words.{◌≡◌, ◌<◌, ℕ, false, is_misplaced, exact_packed}
+use Rattle.file_parts.proofs.AllWords.{◌≡◌, ◌<◌, ℕ, false, is_misplaced, exact_packed}
 use Rattle.file_parts.proofs.exact_packing.check_order.Given as goal
 
 -- no block so far is misplaced

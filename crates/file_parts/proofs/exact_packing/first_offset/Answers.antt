@@ -1,4 +1,4 @@
-use Rattle.file_parts.proofs.Laws.{◌+◌, length, ◌∙◌, arith, ExactFile, exact_size, exact_packed, start_is, refused_more}
+use Rattle.file_parts.proofs.AllLaws.{◌+◌, length, ◌∙◌, arith, ExactFile, exact_size, exact_packed, start_is, refused_more}
 use Rattle.file_parts.proofs.exact_packing.first_offset.Goals as goal
 
 pub returns-in-Ok-clause-is : goal.returns-in-Ok-clause-is

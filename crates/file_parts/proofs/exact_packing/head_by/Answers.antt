@@ -1,4 +1,4 @@
-use Rattle.file_parts.proofs.Laws.{ℕ, List, ◌++◌, drop, take, sym, ap, subst, ◌∙◌, ExactFile, exact_placed, AreOffsets, exact_packed, fields_taken, joined_head}
+use Rattle.file_parts.proofs.AllLaws.{ℕ, List, ◌++◌, drop, take, sym, ap, subst, ◌∙◌, ExactFile, exact_placed, AreOffsets, exact_packed, fields_taken, joined_head}
 use Rattle.file_parts.proofs.exact_packing.head_by.Goals as goal
 
 pub returns-clause-head : goal.returns-clause-head

@@ -1,4 +1,4 @@
-use Rattle.file_parts.proofs.Laws.{◌<◌, ℕ, List, length, refl, sym, ap, ◌∙◌, arith, Database, ListedEntry, exact_placed, exact_packed, placed_count}
+use Rattle.file_parts.proofs.AllLaws.{◌<◌, ℕ, List, length, refl, sym, ap, ◌∙◌, arith, Database, ListedEntry, exact_placed, exact_packed, placed_count}
 use Rattle.file_parts.proofs.exact_packing.header_at.Goals as goal
 
 pub returns : goal.returns

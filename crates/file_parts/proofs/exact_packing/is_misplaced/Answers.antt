@@ -1,4 +1,4 @@
-use Rattle.file_parts.proofs.Laws.{◌<◌, ℕ, List, Option, length, get_or, refl, sym, subst, ◌∙◌, arith, data_in, database_listed, rank_inside}
+use Rattle.file_parts.proofs.AllLaws.{◌<◌, ℕ, List, Option, length, get_or, refl, sym, subst, ◌∙◌, arith, data_in, database_listed, rank_inside}
 use Rattle.file_parts.proofs.exact_packing.is_misplaced.Goals as goal
 
 pub block_of-requires-clause-inside : goal.block_of-requires-clause-inside

@@ -1,4 +1,4 @@
-use Rattle.file_parts.proofs.Words.{sym, subst, IfErr-weaker, IfOk-weaker, IsExactPackFault, IsExactlyPacked}
+use Rattle.file_parts.proofs.AllWords.{sym, subst, IfErr-weaker, IfOk-weaker, IsExactPackFault, IsExactlyPacked}
 use Rattle.file_parts.proofs.exact_packing.pack_exact.Goals as goal
 
 pub returns-in-Ok-clause-packed : goal.returns-in-Ok-clause-packed

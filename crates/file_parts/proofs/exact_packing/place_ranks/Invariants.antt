@@ -1,4 +1,4 @@
-use Rattle.file_parts.proofs.Laws.{◌≡◌, ◌≤◌, length, take, data_in, most_bytes, database_listed, exact_block, exact_start, exact_packed, ArePlaced}
+use Rattle.file_parts.proofs.AllLaws.{◌≡◌, ◌≤◌, length, take, data_in, most_bytes, database_listed, exact_block, exact_start, exact_packed, ArePlaced}
 use Rattle.file_parts.proofs.exact_packing.place_ranks.Given as goal
 
 -- the ranks so far have their offsets, and the next block begins at `at`

@@ -1,4 +1,4 @@
-use Rattle.file_parts.proofs.Laws.{Bool, drop, Writing, Writes, exact_block, exact_blocks, exact_packed, blocks_of}
+use Rattle.file_parts.proofs.AllLaws.{Bool, drop, Writing, Writes, exact_block, exact_blocks, exact_packed, blocks_of}
 use Rattle.file_parts.proofs.exact_packing.put_blocks.Given as goal
 
 -- whatever is written from here on completes the blocks

@@ -1,4 +1,4 @@
-use Rattle.file_parts.proofs.Laws.{◌<◌, ℕ, List, length, get_or, refl, sym, subst, ◌∙◌, data_in, database_listed, rank_inside}
+use Rattle.file_parts.proofs.AllLaws.{◌<◌, ℕ, List, length, get_or, refl, sym, subst, ◌∙◌, data_in, database_listed, rank_inside}
 use Rattle.file_parts.proofs.exact_packing.rank_at.Goals as goal
 
 pub returns-clause-there : goal.returns-clause-there

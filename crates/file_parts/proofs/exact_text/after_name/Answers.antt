@@ -1,4 +1,4 @@
-use Rattle.file_parts.proofs.Words.{◌-◌, List, ℕ, length, drop, take, ap, ◌∙◌, arith, name_in, not_truncated}
+use Rattle.file_parts.proofs.AllWords.{◌-◌, List, ℕ, length, drop, take, ap, ◌∙◌, arith, name_in, not_truncated}
 use Rattle.std.proofs.lemmas.Slice.{between_is}
 use Rattle.file_parts.proofs.exact_text.after_name.Goals as goal
 

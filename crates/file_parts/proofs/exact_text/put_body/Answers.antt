@@ -1,4 +1,4 @@
-use Rattle.file_parts.proofs.Words.{is_ok, then, stops, body_lines, entry_lines, info_lines, with_names, exact_database}
+use Rattle.file_parts.proofs.AllWords.{is_ok, then, stops, body_lines, entry_lines, info_lines, with_names, exact_database}
 use Rattle.file_parts.proofs.exact_text.put_body.Goals as goal
 
 pub returns-in-Ok : goal.returns-in-Ok

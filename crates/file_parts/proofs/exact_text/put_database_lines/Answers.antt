@@ -1,4 +1,4 @@
-use Rattle.file_parts.proofs.Words.{◌++◌, List, ℕ, false, subst, is_ok, DatabaseHeader, header_values, Writes, then, stops, body_lines, database_text, header_lines, with_names, exact_database}
+use Rattle.file_parts.proofs.AllWords.{◌++◌, List, ℕ, false, subst, is_ok, DatabaseHeader, header_values, Writes, then, stops, body_lines, database_text, header_lines, with_names, exact_database}
 use Rattle.file_parts.proofs.exact_text.put_database_lines.Goals as goal
 
 pub returns-in-Ok : goal.returns-in-Ok

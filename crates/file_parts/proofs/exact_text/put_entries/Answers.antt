@@ -1,4 +1,4 @@
-use Rattle.file_parts.proofs.Laws.{◌+◌, ◌<◌, ◌≤◌, List, ℕ, true, false, sym, subst, arith, entry_count_in, Writes, then, stops, nothing, exact_entry_line, rest_lines, all_lines, line_here, none_left}
+use Rattle.file_parts.proofs.AllLaws.{◌+◌, ◌<◌, ◌≤◌, List, ℕ, true, false, sym, subst, arith, entry_count_in, Writes, then, stops, nothing, exact_entry_line, rest_lines, all_lines, line_here, none_left}
 use Rattle.file_parts.proofs.exact_text.put_entries.Goals as goal
 
 pub loop-index-preserved : goal.loop-index-preserved

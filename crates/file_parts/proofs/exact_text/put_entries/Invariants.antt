@@ -1,4 +1,4 @@
-use Rattle.file_parts.proofs.Laws.{Bool, Writing, Writes, rest_lines}
+use Rattle.file_parts.proofs.AllLaws.{Bool, Writing, Writes, rest_lines}
 use Rattle.file_parts.proofs.exact_text.put_entries.Given as goal
 
 -- whatever is written from here on completes the lines

@@ -1,4 +1,4 @@
-use Rattle.file_parts.proofs.Words.{is_ok, then, stops, database_text, ExactText, exact_lines, exact_text, text_of_exact, exact_of}
+use Rattle.file_parts.proofs.AllWords.{is_ok, then, stops, database_text, ExactText, exact_lines, exact_text, text_of_exact, exact_of}
 use Rattle.file_parts.proofs.exact_text.put_exact.Goals as goal
 
 pub returns-in-Ok : goal.returns-in-Ok

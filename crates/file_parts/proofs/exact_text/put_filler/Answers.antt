@@ -1,4 +1,4 @@
-use Rattle.file_parts.proofs.Laws.{◌≡◌, List, ℕ, false, length, sym, ap, subst, ◌∙◌, ◌==◌, is_ok, Writes, filler_in, filler_some}
+use Rattle.file_parts.proofs.AllLaws.{◌≡◌, List, ℕ, false, length, sym, ap, subst, ◌∙◌, ◌==◌, is_ok, Writes, filler_in, filler_some}
 use Rattle.file_parts.proofs.exact_text.put_filler.Goals as goal
 
 pub returns-else-is_empty : goal.returns-else-is_empty

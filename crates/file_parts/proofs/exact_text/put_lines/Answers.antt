@@ -1,4 +1,4 @@
-use Rattle.file_parts.proofs.Words.{◌++◌, List, ℕ, codes, is_ok, then, stops, exact_lines, after_name_text, filler_text, order_text}
+use Rattle.file_parts.proofs.AllWords.{◌++◌, List, ℕ, codes, is_ok, then, stops, exact_lines, after_name_text, filler_text, order_text}
 use Rattle.file_parts.proofs.exact_text.put_lines.Goals as goal
 
 pub returns-in-Ok : goal.returns-in-Ok

@@ -1,4 +1,4 @@
-use Rattle.file_parts.proofs.Words.{◌++◌, is_ok, then, stops, after_name_text, filler_text, order_text}
+use Rattle.file_parts.proofs.AllWords.{◌++◌, is_ok, then, stops, after_name_text, filler_text, order_text}
 use Rattle.file_parts.proofs.exact_text.put_more.Goals as goal
 
 pub returns-in-Ok : goal.returns-in-Ok

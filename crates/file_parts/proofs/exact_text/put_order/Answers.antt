@@ -1,4 +1,4 @@
-use Rattle.file_parts.proofs.Words.{◌≡◌, List, ℕ, Bool, [], cond, true, sym, ap, subst, ◌∙◌, is_ok, Writes, nothing, order_lines, order_text}
+use Rattle.file_parts.proofs.AllWords.{◌≡◌, List, ℕ, Bool, [], cond, true, sym, ap, subst, ◌∙◌, is_ok, Writes, nothing, order_lines, order_text}
 use Rattle.file_parts.proofs.exact_text.put_order.Goals as goal
 
 pub returns-then-is_list_order : goal.returns-then-is_list_order

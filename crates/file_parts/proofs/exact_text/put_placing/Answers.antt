@@ -1,4 +1,4 @@
-use Rattle.file_parts.proofs.Words.{◌++◌, List, ℕ, subst, is_ok, Writes, then, stops, filler_text, order_text}
+use Rattle.file_parts.proofs.AllWords.{◌++◌, List, ℕ, subst, is_ok, Writes, then, stops, filler_text, order_text}
 use Rattle.file_parts.proofs.exact_text.put_placing.Goals as goal
 
 pub returns-in-Ok : goal.returns-in-Ok

@@ -1,4 +1,4 @@
-use Rattle.file_parts.proofs.Words.{◌++◌, List, ℕ, subst, codes, is_ok, Writes}
+use Rattle.file_parts.proofs.AllWords.{◌++◌, List, ℕ, subst, codes, is_ok, Writes}
 use Rattle.file_parts.proofs.exact_text.put_rank.Goals as goal
 
 pub returns : goal.returns

@@ -1,4 +1,4 @@
-use Rattle.file_parts.proofs.Laws.{◌≡◌, ◌+◌, ◌<◌, ◌≤◌, ◌++◌, List, ℕ, [], true, false, length, get_or, drop, sym, ap, subst, arith, drop_all, Writes, then, stops, nothing, order_line, order_lines, rest_from}
+use Rattle.file_parts.proofs.AllLaws.{◌≡◌, ◌+◌, ◌<◌, ◌≤◌, ◌++◌, List, ℕ, [], true, false, length, get_or, drop, sym, ap, subst, arith, drop_all, Writes, then, stops, nothing, order_line, order_lines, rest_from}
 use Rattle.file_parts.proofs.exact_text.put_ranks.Goals as goal
 
 -- the line of an index, and those after it

@@ -1,4 +1,4 @@
-use Rattle.file_parts.proofs.Words.{Bool, drop, Writing, Writes, order_lines}
+use Rattle.file_parts.proofs.AllWords.{Bool, drop, Writing, Writes, order_lines}
 use Rattle.file_parts.proofs.exact_text.put_ranks.Given as goal
 
 -- whatever is written from here on completes the lines

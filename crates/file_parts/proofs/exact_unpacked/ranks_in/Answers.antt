@@ -1,4 +1,4 @@
-use Rattle.file_parts.proofs.Laws.{◌≤◌, List, length, map, ap, ◌∙◌, arith, rules, take_all, IsNonDecreasingBy-from_sort_by_key, offsets_in, block_order, BlockStart, order_is}
+use Rattle.file_parts.proofs.AllLaws.{◌≤◌, List, length, map, ap, ◌∙◌, arith, rules, take_all, IsNonDecreasingBy-from_sort_by_key, offsets_in, block_order, BlockStart, order_is}
 use Rattle.file_parts.proofs.exact_unpacked.ranks_in.Goals as goal
 
 pub returns-clause-order : goal.returns-clause-order

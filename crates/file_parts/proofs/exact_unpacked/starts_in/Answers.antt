@@ -1,4 +1,4 @@
-use Rattle.file_parts.proofs.Laws.{◌≡◌, ℕ, ◌+◌, ◌<◌, ◌++◌, [], ◌∷◌, List, length, ap, ◌∙◌, rules, slice_index, offsets_in, BlockStart, first_starts, one_more, none_more}
+use Rattle.file_parts.proofs.AllLaws.{◌≡◌, ℕ, ◌+◌, ◌<◌, ◌++◌, [], ◌∷◌, List, length, ap, ◌∙◌, rules, slice_index, offsets_in, BlockStart, first_starts, one_more, none_more}
 use Rattle.file_parts.proofs.exact_unpacked.starts_in.Goals as goal
 use Rattle.file_parts.proofs.exact_unpacked.starts_in.Goals.{then-at-ne0+in_ok-push, else-at-ne0}
 

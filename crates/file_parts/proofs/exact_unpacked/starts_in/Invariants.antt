@@ -1,4 +1,4 @@
-use Rattle.file_parts.proofs.Laws.{◌≡◌, offsets_in, first_starts}
+use Rattle.file_parts.proofs.AllLaws.{◌≡◌, offsets_in, first_starts}
 use Rattle.file_parts.proofs.exact_unpacked.starts_in.Given as goal
 
 -- the starts of the first ranks are collected

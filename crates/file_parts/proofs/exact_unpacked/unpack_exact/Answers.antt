@@ -1,4 +1,4 @@
-use Rattle.file_parts.proofs.Laws.{◌≤◌, List, ℕ, length, sym, subst, most_bytes, exact_in, packs_exactly, is_exactly}
+use Rattle.file_parts.proofs.AllLaws.{◌≤◌, List, ℕ, length, sym, subst, most_bytes, exact_in, packs_exactly, is_exactly}
 use Rattle.file_parts.proofs.exact_unpacked.unpack_exact.Goals as goal
 
 pub returns-in-Ok-ranks_in-clause-done : goal.returns-in-Ok-ranks_in-clause-done

@@ -1,4 +1,4 @@
-use Rattle.file_parts.proofs.Words.{◌<◌, ℕ, length, sym, ◌∙◌, arith, Database, ExactFile, exact_placed}
+use Rattle.file_parts.proofs.AllWords.{◌<◌, ℕ, length, sym, ◌∙◌, arith, Database, ExactFile, exact_placed}
 use Rattle.file_parts.proofs.ExactWritten.{placed_count}
 use Rattle.file_parts.proofs.exact_writing.header_at.Goals as goal
 

@@ -1,4 +1,4 @@
-use Rattle.file_parts.proofs.Words.{Bool, drop, flat_map, entry_bytes, Writing, Writes, exact_placed}
+use Rattle.file_parts.proofs.AllWords.{Bool, drop, flat_map, entry_bytes, Writing, Writes, exact_placed}
 use Rattle.file_parts.proofs.exact_writing.put_entries.Given as goal
 
 -- whatever is written from here on completes the entries

@@ -1,4 +1,4 @@
-use Rattle.file_parts.proofs.Laws.{List, ℕ, ◌≤◌, length, arith, most_file_bytes, most_bytes, known_of, is_exactly, keep_why, kept_from, kept_size}
+use Rattle.file_parts.proofs.AllLaws.{List, ℕ, ◌≤◌, length, arith, most_file_bytes, most_bytes, known_of, is_exactly, keep_why, kept_from, kept_size}
 use Rattle.file_parts.proofs.kept.keep_parts.Goals as goal
 
 within : (file : List ℕ) → length file ≤ most_bytes → length file ≤ most_file_bytes

@@ -1,4 +1,4 @@
-use Rattle.file_parts.proofs.Words.{ℕ, IsNonDecreasingBy-from_sort}
+use Rattle.file_parts.proofs.AllWords.{ℕ, IsNonDecreasingBy-from_sort}
 use Rattle.file_parts.proofs.kept.ranks_for.Goals as goal
 
 pub returns-clause-sorted : goal.returns-clause-sorted

@@ -1,4 +1,4 @@
-use Rattle.file_parts.proofs.Words.{header_values, entries_listed}
+use Rattle.file_parts.proofs.AllWords.{header_values, entries_listed}
 use Rattle.file_parts.proofs.ReadTexts.{entries_faulty, listed_read}
 use Rattle.file_parts.proofs.listed.read_database.Goals as goal
 

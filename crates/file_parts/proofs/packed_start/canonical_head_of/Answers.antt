@@ -1,4 +1,4 @@
-use Rattle.file_parts.proofs.Laws.{◌++◌, ℕ, List, subst, blocks_in, all_bytes, IsCanonical, packed_good, form_is}
+use Rattle.file_parts.proofs.AllLaws.{◌++◌, ℕ, List, subst, blocks_in, all_bytes, IsCanonical, packed_good, form_is}
 use Rattle.file_parts.proofs.packed_start.canonical_head_of.Goals as goal
 
 pub of_bytes-requires : goal.of_bytes-requires

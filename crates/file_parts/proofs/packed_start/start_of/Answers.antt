@@ -1,4 +1,4 @@
-use Rattle.file_parts.proofs.Laws.{◌+◌, ◌≤◌, ℕ, List, length, ap, subst, arith, AreBytes, u32_at, app_info_at, most_app, head_least, head_most, starts}
+use Rattle.file_parts.proofs.AllLaws.{◌+◌, ◌≤◌, ℕ, List, length, ap, subst, arith, AreBytes, u32_at, app_info_at, most_app, head_least, head_most, starts}
 use Rattle.file_parts.proofs.packed_start.start_of.Goals as goal
 
 pub start_size-most-requires : goal.start_size-most-requires

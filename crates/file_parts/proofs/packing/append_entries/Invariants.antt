@@ -1,4 +1,4 @@
-use Rattle.file_parts.proofs.Words.{◌≡◌, ◌+◌, ◌≤◌, ◌++◌, length, drop, data_text, entries_text, most_bytes, packed_entries}
+use Rattle.file_parts.proofs.AllWords.{◌≡◌, ◌+◌, ◌≤◌, ◌++◌, length, drop, data_text, entries_text, most_bytes, packed_entries}
 use Rattle.file_parts.proofs.packing.append_entries.Given as goal
 
 -- The entries that are left make the text whole, and their data ends with all of the data.

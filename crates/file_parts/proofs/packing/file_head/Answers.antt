@@ -1,4 +1,4 @@
-use Rattle.file_parts.proofs.Laws.{◌++◌, ◌∷◌, [], ℕ, List, sym, ap, ◌∙◌, blocks_text, entries_text, header_text, file_parts, ListedEntry, database_of_parts, packed_entries, joined}
+use Rattle.file_parts.proofs.AllLaws.{◌++◌, ◌∷◌, [], ℕ, List, sym, ap, ◌∙◌, blocks_text, entries_text, header_text, file_parts, ListedEntry, database_of_parts, packed_entries, joined}
 use Rattle.file_parts.proofs.packing.file_head.Goals as goal
 
 pub returns-clause-file : goal.returns-clause-file

@@ -1,4 +1,4 @@
-use Rattle.file_parts.proofs.Laws.{◌≡◌, ◌+◌, ℕ, List, length, ap, arith, block_size, file_size, database_of_parts, refused_more, sizes}
+use Rattle.file_parts.proofs.AllLaws.{◌≡◌, ◌+◌, ℕ, List, length, ap, arith, block_size, file_size, database_of_parts, refused_more, sizes}
 use Rattle.file_parts.proofs.packing.find_entries.Goals as goal
 
 pub returns-in-Ok-clause-are : goal.returns-in-Ok-clause-are

@@ -1,4 +1,4 @@
-use Rattle.file_parts.proofs.Laws.{◌+◌, ℕ, List, Bool, length, sym, ap, ◌∙◌, entry_offset, has_resources, ListedEntry, length-packed}
+use Rattle.file_parts.proofs.AllLaws.{◌+◌, ℕ, List, Bool, length, sym, ap, ◌∙◌, entry_offset, has_resources, ListedEntry, length-packed}
 use Rattle.file_parts.proofs.packing.first_place.Goals as goal
 
 pub returns-clause-is : goal.returns-clause-is

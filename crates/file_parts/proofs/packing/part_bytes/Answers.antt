@@ -1,4 +1,4 @@
-use Rattle.file_parts.proofs.Words.{[], List, ℕ, sym, ap, ◌∙◌, get_or_default, block_bytes, filled}
+use Rattle.file_parts.proofs.AllWords.{[], List, ℕ, sym, ap, ◌∙◌, get_or_default, block_bytes, filled}
 use Rattle.file_parts.proofs.packing.part_bytes.Goals as goal
 
 pub returns : goal.returns

@@ -1,4 +1,4 @@
-use Rattle.file_parts.proofs.Laws.{◌∙◌, entry_of, entry_placed}
+use Rattle.file_parts.proofs.AllLaws.{◌∙◌, entry_of, entry_placed}
 use Rattle.file_parts.proofs.packing.placed.Goals as goal
 
 pub returns-clause-is : goal.returns-clause-is

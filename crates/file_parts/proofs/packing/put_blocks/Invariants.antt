@@ -1,4 +1,4 @@
-use Rattle.file_parts.proofs.Laws.{Bool, Writing, Writes, blocks_on}
+use Rattle.file_parts.proofs.AllLaws.{Bool, Writing, Writes, blocks_on}
 use Rattle.file_parts.proofs.packing.put_blocks.Given as goal
 
 -- whatever is written from here on completes the blocks

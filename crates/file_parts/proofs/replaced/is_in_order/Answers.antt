@@ -1,4 +1,4 @@
-use Rattle.file_parts.proofs.Laws.{ℕ, List, ◌≡◌, length, false, ap, sym, ◌∙◌, below_more, arith, is_misplaced, exact_replacing, in_order}
+use Rattle.file_parts.proofs.AllLaws.{ℕ, List, ◌≡◌, length, false, ap, sym, ◌∙◌, below_more, arith, is_misplaced, exact_replacing, in_order}
 use Rattle.file_parts.proofs.replaced.is_in_order.Goals as goal
 
 pub loop-index-preserved : goal.loop-index-preserved

@@ -1,4 +1,4 @@
-use Rattle.file_parts.proofs.Words.{◌≡◌, ◌<◌, ℕ, false, is_misplaced, exact_replacing}
+use Rattle.file_parts.proofs.AllWords.{◌≡◌, ◌<◌, ℕ, false, is_misplaced, exact_replacing}
 use Rattle.file_parts.proofs.replaced.is_in_order.Given as goal
 
 -- no block so far is misplaced

@@ -1,4 +1,4 @@
-use Rattle.file_parts.proofs.Words.{arith, block_count}
+use Rattle.file_parts.proofs.AllWords.{arith, block_count}
 use Rattle.file_parts.proofs.replaced.old_block.Goals as goal
 
 pub block-requires : goal.block-requires

@@ -1,4 +1,4 @@
-use Rattle.file_parts.proofs.Laws.{refl, exact_of, exactly_in, part_empty, place_why}
+use Rattle.file_parts.proofs.AllLaws.{refl, exact_of, exactly_in, part_empty, place_why}
 use Rattle.file_parts.proofs.replaced.ready.Goals as goal
 
 pub returns-then-not-is_in_order-clause-why : goal.returns-then-not-is_in_order-clause-why

@@ -1,4 +1,4 @@
-use Rattle.file_parts.proofs.Words.{List, ℕ, Option, subst, is_ok, Database, Writes, reads, read_once, database_text, with_names, database_of}
+use Rattle.file_parts.proofs.AllWords.{List, ℕ, Option, subst, is_ok, Database, Writes, reads, read_once, database_text, with_names, database_of}
 use Rattle.file_parts.proofs.text.put_database.Goals as goal
 
 pub returns : goal.returns

@@ -1,4 +1,4 @@
-use Rattle.file_parts.proofs.Words.{Bool, Writing, Writes}
+use Rattle.file_parts.proofs.AllWords.{Bool, Writing, Writes}
 use Rattle.file_parts.proofs.EntryLines.{rest_lines}
 use Rattle.file_parts.proofs.text.put_entries.Given as goal
 

@@ -1,4 +1,4 @@
-use Rattle.file_parts.proofs.Words.{◌≡◌, List, ℕ, refl, subst, is_ok, Writes, header_values, header_lines}
+use Rattle.file_parts.proofs.AllWords.{◌≡◌, List, ℕ, refl, subst, is_ok, Writes, header_values, header_lines}
 use Rattle.file_parts.proofs.text.put_header.Goals as goal
 
 pub returns : goal.returns

@@ -1,4 +1,4 @@
-use Rattle.file_parts.proofs.Words.{None, get_or, codes, is_ok, blocks_in, then, stops, app_name, sort_name, info_line, name_if_data}
+use Rattle.file_parts.proofs.AllWords.{None, get_or, codes, is_ok, blocks_in, then, stops, app_name, sort_name, info_line, name_if_data}
 use Rattle.file_parts.proofs.text.put_infos.Goals as goal
 
 pub returns-in-Ok : goal.returns-in-Ok

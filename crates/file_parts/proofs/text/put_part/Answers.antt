@@ -1,4 +1,4 @@
-use Rattle.file_parts.proofs.Laws.{List, ℕ, subst, is_ok, Writes, part_joined}
+use Rattle.file_parts.proofs.AllLaws.{List, ℕ, subst, is_ok, Writes, part_joined}
 use Rattle.file_parts.proofs.text.put_part.Goals as goal
 
 pub returns-in-Some : goal.returns-in-Some

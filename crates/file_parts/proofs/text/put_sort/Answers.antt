@@ -1,4 +1,4 @@
-use Rattle.file_parts.proofs.Words.{List, ℕ, Option, ap, subst, codes, is_ok, Writes, sort_name, info_line, name_if_data}
+use Rattle.file_parts.proofs.AllWords.{List, ℕ, Option, ap, subst, codes, is_ok, Writes, sort_name, info_line, name_if_data}
 use Rattle.file_parts.proofs.text.put_sort.Goals as goal
 
 pub returns : goal.returns

@@ -1,4 +1,4 @@
-use Rattle.file_parts.proofs.Words.{List, ℕ, false, subst, rules, is_ok, header_values, Writes, then, stops, header_lines}
+use Rattle.file_parts.proofs.AllWords.{List, ℕ, false, subst, rules, is_ok, header_values, Writes, then, stops, header_lines}
 use Rattle.file_parts.proofs.Wholes.{rest_of, text_is}
 use Rattle.file_parts.proofs.text.put_text.Goals as goal
 

@@ -1,4 +1,4 @@
-use Rattle.file_parts.proofs.Words.{arith, sym, ap, ◌∙◌, bytes_at, block_count}
+use Rattle.file_parts.proofs.AllWords.{arith, sym, ap, ◌∙◌, bytes_at, block_count}
 use Rattle.file_parts.proofs.unpacked.part_of.Goals as goal
 
 pub block-requires : goal.block-requires

@@ -1,4 +1,4 @@
-use Rattle.file_parts.proofs.Words.{ap, sym, ◌∙◌, Ok, database_listed, exact_listed, ExactHead, exact_with}
+use Rattle.file_parts.proofs.AllWords.{ap, sym, ◌∙◌, Ok, database_listed, exact_listed, ExactHead, exact_with}
 use Rattle.file_parts.proofs.ValueLaws.{no_file, text_is}
 use Rattle.file_parts.proofs.values.list_exact.Goals as goal
 

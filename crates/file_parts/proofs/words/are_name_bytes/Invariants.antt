@@ -1,4 +1,4 @@
-use Rattle.file_parts.proofs.Words.{◌≡◌, true, take, list_all, is_name_byte}
+use Rattle.file_parts.proofs.AllWords.{◌≡◌, true, take, list_all, is_name_byte}
 use Rattle.file_parts.proofs.words.are_name_bytes.Given as goal
 
 abbrev pub invariant-loop-byte : goal.invariant-loop-byte

@@ -1,4 +1,4 @@
-use Rattle.file_parts.proofs.Words.{ap, ◌∙◌, option_and_then, name_if}
+use Rattle.file_parts.proofs.AllWords.{ap, ◌∙◌, option_and_then, name_if}
 use Rattle.file_parts.proofs.Names.{name_tried}
 use Rattle.file_parts.proofs.words.database_name_of.Goals as goal
 

@@ -1,4 +1,4 @@
-use Rattle.file_parts.proofs.Words.{sym, subst, is_ok, Writes, folder_tail, ListedFolder}
+use Rattle.file_parts.proofs.AllWords.{sym, subst, is_ok, Writes, folder_tail, ListedFolder}
 use Rattle.file_parts.proofs.either.ListedFolder.put_tail.Goals as goal
 
 pub returns-in-Exact : goal.returns-in-Exact

@@ -1,4 +1,4 @@
-use Rattle.file_parts.proofs.Words.{database_read, known_of, AreChangesLeft, sym, subst}
+use Rattle.file_parts.proofs.AllWords.{database_read, known_of, AreChangesLeft, sym, subst}
 use Rattle.file_parts.proofs.KeptChanges.{are_left}
 use Rattle.file_parts.proofs.keep.Keep.changes_by.Goals as goal
 

@@ -1,4 +1,4 @@
-use Rattle.file_parts.proofs.Words.{ap, sym, ◌∙◌, arith, block_bytes}
+use Rattle.file_parts.proofs.AllWords.{ap, sym, ◌∙◌, arith, block_bytes}
 use Rattle.file_parts.proofs.KeptSources.{block_is, count_is}
 use Rattle.file_parts.proofs.kept.KeepingExactSource.block.Goals as goal
 

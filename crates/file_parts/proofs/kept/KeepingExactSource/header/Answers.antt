@@ -1,4 +1,4 @@
-use Rattle.file_parts.proofs.Laws.{ap, sym, subst, ◌∙◌, IsDatabaseName, header_read, file_named, entry_count, header_is, name_is}
+use Rattle.file_parts.proofs.AllLaws.{ap, sym, subst, ◌∙◌, IsDatabaseName, header_read, file_named, entry_count, header_is, name_is}
 use Rattle.file_parts.proofs.kept.KeepingExactSource.header.Goals as goal
 
 pub returns-clause-values : goal.returns-clause-values

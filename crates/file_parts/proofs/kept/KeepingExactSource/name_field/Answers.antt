@@ -1,4 +1,4 @@
-use Rattle.file_parts.proofs.Laws.{ap, ◌∙◌, DatabaseHeader, name_field, field_is, header_name}
+use Rattle.file_parts.proofs.AllLaws.{ap, ◌∙◌, DatabaseHeader, name_field, field_is, header_name}
 use Rattle.file_parts.proofs.kept.KeepingExactSource.name_field.Goals as goal
 
 pub returns : goal.returns

@@ -1,4 +1,4 @@
-use Rattle.file_parts.proofs.Words.{◌≡◌, ◌+◌, ◌<◌, ◌^◌, length, lines, next_of}
+use Rattle.file_parts.proofs.AllWords.{◌≡◌, ◌+◌, ◌<◌, ◌^◌, length, lines, next_of}
 use Rattle.file_parts.proofs.lines.Lines.next.Given as goal
 
 -- the lines before these are passed over

@@ -1,4 +1,4 @@
-use Rattle.file_parts.proofs.Words.{◌≤◌, ◌∙◌, arith, most_bytes, exact_size, exact_replacing}
+use Rattle.file_parts.proofs.AllWords.{◌≤◌, ◌∙◌, arith, most_bytes, exact_size, exact_replacing}
 use Rattle.file_parts.proofs.ReplacedSound.{size_is}
 use Rattle.file_parts.proofs.replaced.Replaced.size.Goals as goal
 

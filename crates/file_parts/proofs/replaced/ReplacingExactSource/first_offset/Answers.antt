@@ -1,4 +1,4 @@
-use Rattle.file_parts.proofs.Words.{◌+◌, List, ℕ, length, sym, ap, ◌∙◌, entries_end}
+use Rattle.file_parts.proofs.AllWords.{◌+◌, List, ℕ, length, sym, ap, ◌∙◌, entries_end}
 use Rattle.file_parts.proofs.ReplacedFiles.{start_is}
 use Rattle.file_parts.proofs.replaced.ReplacingExactSource.first_offset.Goals as goal
 

@@ -1,4 +1,4 @@
-use Rattle.file_parts.proofs.Words.{sym, ◌∙◌, length-entries_in, database_in, exact_database}
+use Rattle.file_parts.proofs.AllWords.{sym, ◌∙◌, length-entries_in, database_in, exact_database}
 use Rattle.file_parts.proofs.ExactFits.{file_name}
 use Rattle.file_parts.proofs.ReplacedFiles.{entry_count}
 use Rattle.file_parts.proofs.replaced.ReplacingExactSource.header.Goals as goal

@@ -1,4 +1,4 @@
-use Rattle.file_parts.proofs.Laws.{◌≤◌, List, ℕ, length, sym, ap, subst, ◌∙◌, take, arith, not_truncated, exactly_in}
+use Rattle.file_parts.proofs.AllLaws.{◌≤◌, List, ℕ, length, sym, ap, subst, ◌∙◌, take, arith, not_truncated, exactly_in}
 use Rattle.file_parts.proofs.replaced.ReplacingExactSource.name_field.Goals as goal
 
 pub copied_name-requires : goal.copied_name-requires
