@@ -1,3 +1,4 @@
+pub mod Shorthands
 pub mod AllWords
 pub mod EntryLines
 pub mod GoodWords
