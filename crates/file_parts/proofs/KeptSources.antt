@@ -1,37 +1,10 @@
 -- A file that keeps some things, as it is laid out and written.
-use Rattle.std.proofs.Common.{◌≡◌, ℕ, ◌+◌, ◌-◌, ◌<◌, ◌≤◌, ◌++◌, Bool, true, false, cond, Option, None, List, [], length, get_or, map, drop, inl, inr, refl, sym, ap, subst, ◌∙◌, arith}
-use Rattle.std.specs.Prelude.{◌==◌, ◌⊎◌, if◌then◌else◌, IsFalse, IsTrue, is_some}
-use Rattle.std.specs.List.{range_with_len}
-use Rattle.std.specs.List.Sorted.{IsPermutation, IsNonDecreasing}
-use Rattle.std.proofs.lemmas.Bool.{and_from, and_parts}
-use Rattle.std.proofs.lemmas.List.{get_or-map, length-drop, length-map, length-take}
-use Rattle.std.proofs.lemmas.List.FromFn.{fill_by_all, get_or-map-range_with_len, length-map-range_with_len}
-use Rattle.std.proofs.lemmas.List.Sorted.{sum_by-IsPermutation}
-use Rattle.heap_model.specs.Bytes.{AreBytes, u24_at}
-use Rattle.heap_model.specs.Lists.{times}
-use Rattle.heap_model.specs.UniqueIds.{seed_in}
-use Rattle.heap_model.specs.Database.{Database, DatabaseHeader, Entry, a_record, a_resource, data_in, database_in, entry_at, entry_count_in, entry_offset, entry_with, has_resources, header_in, name_field, name_in, resources_in}
-use Rattle.heap_model.specs.Store.{unique_ids}
-use Rattle.heap_model.specs.Files.{blocks_in, entries_end, idle, idle_attributes, idle_entry}
-use Rattle.laws_store.proofs.Times.{contained-times, times-distinct, times-some}
-use Rattle.pdb_format.specs.Filler.{filler_in, first_start, written_filler}
-use Rattle.pdb_format.specs.ReadFiles.{database_read, entry_read, entry_read_at, header_read}
-use Rattle.pdb_format.proofs.GoodFiles.{not_truncated}
-use Rattle.pdb_format.proofs.ReadFiles.{blocks_read_are, entry_read_is, length-entries_read}
-use Rattle.pdb_format.proofs.WrittenIds.{header_stays}
-use Rattle.canonical_file.specs.Canonical.{most_bytes}
+use Rattle.file_parts.proofs.AllWords.{◌≡◌, ℕ, ◌+◌, ◌-◌, ◌<◌, ◌≤◌, ◌++◌, Bool, true, false, cond, Option, None, List, [], length, get_or, map, drop, inl, inr, refl, sym, ap, subst, ◌∙◌, arith, ◌==◌, ◌⊎◌, if◌then◌else◌, IsFalse, IsTrue, is_some, range_with_len, IsPermutation, IsNonDecreasing, and_from, and_parts, get_or-map, length-drop, length-map, length-take, fill_by_all, get_or-map-range_with_len, length-map-range_with_len, sum_by-IsPermutation, AreBytes, u24_at, times, seed_in, Database, DatabaseHeader, Entry, a_record, a_resource, data_in, database_in, entry_at, entry_count_in, entry_offset, entry_with, has_resources, header_in, name_field, name_in, resources_in, unique_ids, blocks_in, entries_end, idle, idle_attributes, idle_entry, contained-times, times-distinct, times-some, filler_in, first_start, written_filler, database_read, entry_read, entry_read_at, header_read, not_truncated, blocks_read_are, entry_read_is, length-entries_read, header_stays, most_bytes, Known, ExactFile, IsExactly, exact_block, exact_bytes, exact_database, exact_entry, exact_in, exact_size, exact_start, after_name_of, is_other, order_of, AreExactPlaces, HasValuesAt, IsOrdered, IsPlaceFault, KeepsParts, kept_exact, PlaceFault, Keep}
 use Rattle.canonical_file.specs.Written.{ids_of, seed_of}
-use Rattle.canonical_file.proofs.Kept.{Known}
 use Rattle.canonical_file.proofs.OwnIds.{own_id}
-use Rattle.file_parts.specs.Exact.{ExactFile, IsExactly, exact_block, exact_bytes, exact_database, exact_entry, exact_in, exact_size, exact_start}
-use Rattle.file_parts.specs.ExactTexts.{after_name_of, is_other, order_of}
-use Rattle.file_parts.specs.ExactWriting.{AreExactPlaces, HasValuesAt, IsOrdered, IsPlaceFault}
-use Rattle.file_parts.specs.Keeping.{KeepsParts, kept_exact}
 use Rattle.file_parts.specs.Kept.{IsKeepFault, IsKeeping, exact_keeping}
-use Rattle.file_parts.specs.declared.exact_writing.PlaceFault.{PlaceFault}
 use Rattle.file_parts.specs.declared.exact_writing.PlaceFault.TheVariants.{TooLarge, OutOfMemory}
 use Rattle.file_parts.specs.declared.exact_writing.Places.{Places}
-use Rattle.file_parts.specs.declared.keep.Keep.{Keep}
 use Rattle.file_parts.specs.declared.kept.Keeping.{Keeping}
 use Rattle.file_parts.proofs.ExactInside.{inside_some}
 use Rattle.file_parts.proofs.ExactRanks.{cases_above, get_or-same, those_are}

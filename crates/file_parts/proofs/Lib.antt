@@ -1,3 +1,5 @@
+pub mod Shorthands
+pub mod AllWords
 pub mod EntryLines
 pub mod GoodWords
 pub mod ListedEntries
@@ -47,3 +49,4 @@ pub mod KeptChanges
 pub mod KeptSound
 pub mod KeptSources
 pub mod PackedStarts
+pub mod AllLaws

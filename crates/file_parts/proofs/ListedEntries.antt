@@ -1,17 +1,5 @@
 -- The entries of a listed database, and the lines that are left.
-use Rattle.std.proofs.Common.{◌≡◌, ℕ, ◌+◌, ◌<◌, Bool, true, false, Option, Some, None, List, [], ◌∷◌, ◌++◌, length, get_or, map, refl, ap, ◌∙◌, arith}
-use Rattle.std.specs.Prelude.{All, Ok}
-use Rattle.std.proofs.lemmas.List.Elements.{All-head, All-tail, All-nil, All-cons}
-use Rattle.std.proofs.lemmas.List.{length-map, get_or-map}
-use Rattle.heap_model.specs.Database.{Entry, entry_data, entry_with}
-use Rattle.db_format.specs.declared.db_entry.DbEntry.{DbEntry}
-use Rattle.db_format.specs.declared.db_entry.DbEntry.TheVariants.{Record, Resource}
-use Rattle.db_format.specs.EitherEntry.{entry_of}
-use Rattle.script_lines.specs.Words.{is_passed_over}
-use Rattle.file_parts.specs.declared.entries.ListedEntry.{ListedEntry}
-use Rattle.file_parts.specs.Left.{Left, left}
-use Rattle.file_parts.specs.Listed.{entry_listed, entries_listed}
-use Rattle.file_parts.specs.Reading.{next_of, one_more, unless_bad, read_entries}
+use Rattle.file_parts.proofs.AllWords.{◌≡◌, ℕ, ◌+◌, ◌<◌, Bool, true, false, Option, Some, None, List, [], ◌∷◌, ◌++◌, length, get_or, map, refl, ap, ◌∙◌, arith, All, Ok, All-head, All-tail, All-nil, All-cons, length-map, get_or-map, Entry, entry_data, entry_with, DbEntry, Record, Resource, entry_of, is_passed_over, ListedEntry, Left, left, entry_listed, entries_listed, next_of, one_more, unless_bad, read_entries}
 
 part_listed : (listed : ListedEntry) → entry_data (entry_listed listed) ≡ listed.part
 part_listed listed = by_kind listed.entry where

@@ -1,11 +1,5 @@
 -- The names of databases, as tests.
-use Rattle.std.proofs.Common.{◌≡◌, ◌<◌, ℕ, Bool, true, false, Option, Some, None, List, [], ◌∷◌, length, refl, sym, ap, subst, ◌∙◌, arith}
-use Rattle.std.specs.Prelude.{All, ◌&&◌, nat_lt, SomeIff}
-use Rattle.std.specs.List.{list_all}
-use Rattle.std.proofs.lemmas.Bool.{and_parts}
-use Rattle.std.proofs.lemmas.List.Elements.{All-head, All-tail, All-nil, All-cons}
-use Rattle.heap_model.specs.Database.{IsDatabaseName}
-use Rattle.file_parts.specs.Words.{is_name, name_if}
+use Rattle.file_parts.proofs.AllWords.{◌≡◌, ◌<◌, ℕ, Bool, true, false, Option, Some, None, List, [], ◌∷◌, length, refl, sym, ap, subst, ◌∙◌, arith, All, ◌&&◌, nat_lt, SomeIff, list_all, and_parts, All-head, All-tail, All-nil, All-cons, IsDatabaseName, is_name, name_if}
 
 positive : (xs : List ℕ) → All (λ byte. 0 < byte) xs → list_all (nat_lt 0) xs ≡ true
 positive [] all = refl

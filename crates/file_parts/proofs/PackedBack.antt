@@ -1,35 +1,8 @@
 -- A file that is taken apart is put together as its canonical form.
-use Rattle.std.proofs.Common.{◌≡◌, ◌≢◌, ℕ, suc, ◌+◌, ◌^◌, ◌<◌, ◌≤◌, Bool, true, false, Option, None, List, [], ◌∷◌, length, map, get_or, refl, sym, ap, subst, ◌∙◌, arith}
-use Rattle.std.specs.Prelude.{All}
-use Rattle.std.specs.List.{AllZip}
-use Rattle.std.proofs.lemmas.Nat.{and_le_l}
-use Rattle.byteorder.specs.Numbers.{big_from-lt}
-use Rattle.heap_model.specs.Bytes.{AreBytes, u16_at, u32_at}
-use Rattle.heap_model.specs.Lists.{Distinct}
-use Rattle.heap_model.specs.UniqueIds.{greatest_id}
-use Rattle.heap_model.specs.Database.{Database, Entry, a_record, a_resource, IsDatabaseName, HeaderFits, has_resources, header_in, resources_in, entry_count_in, entry_at, entry_in, entry_offset}
-use Rattle.heap_model.specs.Store.{unique_ids}
-use Rattle.heap_model.specs.Files.{HasNoFault, Reads, blocks_in, idle, idle_entry, file_of}
-use Rattle.heap_model.specs.FileSteps.{size_of_block}
-use Rattle.laws_store.proofs.Shapes.{header_fits}
-use Rattle.pdb_format.specs.Opened.{HasPlaces}
-use Rattle.pdb_format.specs.declared.blocks.Block.{Block}
-use Rattle.pdb_format.specs.Writable.{IsWritableEntry, HasFile}
-use Rattle.pdb_format.specs.ReadFiles.{entry_read, entries_read, database_read, HasIdsFor}
-use Rattle.pdb_format.proofs.FileNames.{file_named}
-use Rattle.pdb_format.proofs.FileBlocks.{none_planned, record_block, resource_block}
-use Rattle.pdb_format.proofs.GoodFiles.{not_truncated}
-use Rattle.pdb_format.proofs.ReadFiles.{length-entries_read, entry_read_is, ids_read, blocks_read_are}
-use Rattle.pdb_format.proofs.ReadOnce.{read_once}
-use Rattle.pdb_format.proofs.WrittenFiles.{still_deleted, file_reads, idle_file, idle_twice}
-use Rattle.pdb_format.proofs.WrittenOffsets.{all_bytes}
-use Rattle.canonical_file.specs.Canonical.{IsCanonical}
+use Rattle.file_parts.proofs.AllWords.{◌≡◌, ◌≢◌, ℕ, suc, ◌+◌, ◌^◌, ◌<◌, ◌≤◌, Bool, true, false, Option, None, List, [], ◌∷◌, length, map, get_or, refl, sym, ap, subst, ◌∙◌, arith, All, AllZip, and_le_l, big_from-lt, AreBytes, u16_at, u32_at, Distinct, greatest_id, Database, Entry, a_record, a_resource, IsDatabaseName, HeaderFits, has_resources, header_in, resources_in, entry_count_in, entry_at, entry_in, entry_offset, unique_ids, HasNoFault, Reads, blocks_in, idle, idle_entry, file_of, size_of_block, header_fits, HasPlaces, Block, IsWritableEntry, HasFile, entry_read, entries_read, database_read, HasIdsFor, file_named, none_planned, record_block, resource_block, not_truncated, length-entries_read, entry_read_is, ids_read, blocks_read_are, read_once, still_deleted, file_reads, idle_file, idle_twice, all_bytes, IsCanonical, fits_seeded, IsUnpacked, database_of, PacksBack}
 use Rattle.canonical_file.proofs.BlockTexts.{blocks_long}
 use Rattle.canonical_file.proofs.Headers.{first_is}
-use Rattle.canonical_file.proofs.Kept.{fits_seeded}
 use Rattle.file_parts.specs.declared.unpacked.Unpacked.{Unpacked}
-use Rattle.file_parts.specs.Unpacking.{IsUnpacked, database_of}
-use Rattle.file_parts.specs.Laws.{PacksBack}
 use Rattle.file_parts.proofs.PartsBack.{parts_back, text_back, name_bytes}
 
 pub u16_small : (file : List ℕ) (at : ℕ) → AreBytes file → u16_at file at < 2 ^ 16

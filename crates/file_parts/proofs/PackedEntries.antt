@@ -1,21 +1,5 @@
 -- The entries of a packed database, one after the other.
-use Rattle.std.proofs.Common.{◌≡◌, ℕ, zero, suc, ◌+◌, ◌<◌, ◌≤◌, Bool, true, false, Option, Some, None, List, [], ◌∷◌, ◌++◌, length, get_or, drop, map, refl, sym, ap, ◌∙◌, arith, add-one, drop-cons, append_assoc, length-append}
-use Rattle.std.proofs.lemmas.List.{length-map, get_or-map, drop_all}
-use Rattle.heap_model.specs.Database.{has_resources, Entry, a_record, a_resource, entry_data, entry_with, entry_bytes}
-use Rattle.heap_model.specs.Files.{HasNoFault, file_of, idle_attributes, idle_entry, block_bytes, block_size, block_offset}
-use Rattle.db_format.specs.declared.db_entry.DbEntry.TheVariants.{Record, Resource}
-use Rattle.db_format.specs.declared.db_entry.DbEntry.{DbEntry}
-use Rattle.std.specs.Prelude.{All}
-use Rattle.std.proofs.lemmas.List.Elements.{All-head, All-tail, All-nil, All-cons}
-use Rattle.pdb_format.specs.Writable.{IsWritableEntry, file_size, HasFile}
-use Rattle.pdb_format.proofs.WrittenFiles.{file_good, length-of_file}
-use Rattle.canonical_file.specs.Canonical.{most_bytes}
-use Rattle.db_format.specs.EitherEntry.{entry_of, HasFittingId}
-use Rattle.pdb_format.specs.FileTexts.{entries_text, data_text}
-use Rattle.file_parts.specs.declared.entries.ListedEntry.{ListedEntry}
-use Rattle.file_parts.specs.declared.listed.Listed.{Listed}
-use Rattle.file_parts.specs.Listed.{IsGoodEntry, IsListed, entry_listed, entries_listed}
-use Rattle.file_parts.specs.Packing.{filled, part_at, filled_entries, packed_entries, database_of_parts}
+use Rattle.file_parts.proofs.AllWords.{◌≡◌, ℕ, zero, suc, ◌+◌, ◌<◌, ◌≤◌, Bool, true, false, Option, Some, None, List, [], ◌∷◌, ◌++◌, length, get_or, drop, map, refl, sym, ap, ◌∙◌, arith, add-one, drop-cons, append_assoc, length-append, length-map, get_or-map, drop_all, has_resources, Entry, a_record, a_resource, entry_data, entry_with, entry_bytes, HasNoFault, file_of, idle_attributes, idle_entry, block_bytes, block_size, block_offset, Record, Resource, DbEntry, All, All-head, All-tail, All-nil, All-cons, IsWritableEntry, file_size, HasFile, file_good, length-of_file, most_bytes, entry_of, HasFittingId, entries_text, data_text, ListedEntry, Listed, IsGoodEntry, IsListed, entry_listed, entries_listed, filled, part_at, filled_entries, packed_entries, database_of_parts}
 
 pub length-filled : (parts : List (List ℕ)) (rank : ℕ) (es : List (Entry (Option (List ℕ)))) → length (filled_entries parts rank es) ≡ length es
 length-filled parts rank [] = refl

@@ -1,15 +1,5 @@
 -- The offsets of the blocks of a packed database, and the blocks one after the other.
-use Rattle.std.proofs.Common.{◌≡◌, ℕ, zero, suc, ◌+◌, ◌<◌, ◌≤◌, Option, None, List, [], ◌∷◌, ◌++◌, length, get_or, drop, map, refl, sym, ap, ◌∙◌, arith, add-one, drop-cons}
-use Rattle.std.proofs.lemmas.List.{length-map, drop_all}
-use Rattle.heap_model.specs.Database.{Database, entry_data, data_in}
-use Rattle.heap_model.specs.Files.{block_bytes, block_size, first_block}
-use Rattle.pdb_format.specs.Writable.{file_size}
-use Rattle.pdb_format.proofs.WrittenOffsets.{all_bytes, size_more}
-use Rattle.file_parts.specs.declared.listed.Listed.{Listed}
-use Rattle.file_parts.specs.declared.packing.PackFault.{PackFault}
-use Rattle.file_parts.specs.declared.packing.PackFault.TheVariants.{TooLarge, BadLine, OutOfMemory}
-use Rattle.file_parts.specs.Listed.{database_listed}
-use Rattle.file_parts.specs.Packing.{IsRefusedFor, filled, part_at, database_of_parts, with_parts}
+use Rattle.file_parts.proofs.AllWords.{◌≡◌, ℕ, zero, suc, ◌+◌, ◌<◌, ◌≤◌, Option, None, List, [], ◌∷◌, ◌++◌, length, get_or, drop, map, refl, sym, ap, ◌∙◌, arith, add-one, drop-cons, length-map, drop_all, Database, entry_data, data_in, block_bytes, block_size, first_block, file_size, all_bytes, size_more, Listed, PackFault, TooLarge, BadLine, OutOfMemory, database_listed, IsRefusedFor, filled, part_at, database_of_parts, with_parts}
 use Rattle.file_parts.proofs.PackedEntries.{block_filled, length-filled}
 
 -- a larger file is refused as well

@@ -1,24 +1,6 @@
 -- The first bytes of a file that is put together, and the file that is opened by them.
-use Rattle.std.proofs.Common.{◌≡◌, ℕ, zero, suc, ◌+◌, ◌-◌, ◌<◌, ◌≤◌, Bool, true, false, Option, Some, None, List, [], ◌∷◌, ◌++◌, inl, inr, length, take, drop, map, refl, sym, ap, subst, ◌∙◌, arith, length-append}
-use Rattle.std.specs.Prelude.{◌⊎◌, All, Err, Ok, OnOk, Result, min}
-use Rattle.std.proofs.Math.Seq.{take-append-add}
-use Rattle.std.proofs.lemmas.Bool.{cases_lt}
-use Rattle.std.proofs.lemmas.List.{drop_all, drop-take, get_or_append_left, get_or-append_right, get_or_past, length-take-le, take_min, take-append-drop, take-take}
-use Rattle.heap_model.specs.Bytes.{AreBytes, u32_at}
-use Rattle.heap_model.specs.DatabaseFields.{app_info_at}
-use Rattle.heap_model.specs.Database.{Database, Entry, a_record, a_resource, entry_data, entry_offset, has_resources}
-use Rattle.heap_model.specs.Files.{blocks_in, block_bytes, file_of, first_block}
-use Rattle.pdb_format.specs.FileStarts.{IsFileStart, most_app, most_start}
-use Rattle.pdb_format.specs.FileTexts.{blocks_text}
-use Rattle.pdb_format.specs.Writable.{file_size}
+use Rattle.file_parts.proofs.AllWords.{◌≡◌, ℕ, zero, suc, ◌+◌, ◌-◌, ◌<◌, ◌≤◌, Bool, true, false, Option, Some, None, List, [], ◌∷◌, ◌++◌, inl, inr, length, take, drop, map, refl, sym, ap, subst, ◌∙◌, arith, length-append, ◌⊎◌, All, Err, Ok, OnOk, Result, min, take-append-add, cases_lt, drop_all, drop-take, get_or_append_left, get_or-append_right, get_or_past, length-take-le, take_min, take-append-drop, take-take, AreBytes, u32_at, app_info_at, Database, Entry, a_record, a_resource, entry_data, entry_offset, has_resources, blocks_in, block_bytes, file_of, first_block, IsFileStart, most_app, most_start, blocks_text, file_size, length-of_file, read_back, u32_front, all_bytes, IsCanonical, most_bytes, Listed, IsListed, entries_listed, database_of_parts, filled, filled_entries, part_at}
 use Rattle.pdb_format.proofs.StartLaws.{app_started, header_started}
-use Rattle.pdb_format.proofs.WrittenFiles.{length-of_file, read_back}
-use Rattle.pdb_format.proofs.WrittenHeads.{u32_front}
-use Rattle.pdb_format.proofs.WrittenOffsets.{all_bytes}
-use Rattle.canonical_file.specs.Canonical.{IsCanonical, most_bytes}
-use Rattle.file_parts.specs.declared.listed.Listed.{Listed}
-use Rattle.file_parts.specs.Listed.{IsListed, entries_listed}
-use Rattle.file_parts.specs.Packing.{database_of_parts, filled, filled_entries, part_at}
 use Rattle.file_parts.specs.PackedStarts.{StartsFile}
 use Rattle.file_parts.proofs.PackedEntries.{length-packed, packed_has_file}
 

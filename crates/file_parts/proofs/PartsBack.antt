@@ -1,19 +1,5 @@
 -- The text and the parts of a database give it back.
-use Rattle.std.proofs.Common.{◌≡◌, ℕ, zero, suc, ◌+◌, ◌/◌, ◌%◌, ◌^◌, ◌<◌, ◌≤◌, Bool, true, false, Option, Some, None, List, [], ◌∷◌, ◌++◌, length, map, take, refl, sym, ap, ◌∙◌, arith, append_assoc, append-nil, length-append}
-use Rattle.std.specs.Prelude.{All, Ok, ◌==◌}
-use Rattle.std.specs.List.{AllZip}
-use Rattle.std.proofs.Math.Seq.{get_or-append_seam}
-use Rattle.std.proofs.lemmas.Fmt.{decimal_digit}
-use Rattle.std.proofs.lemmas.List.Elements.{All-head, All-tail, All-nil, All-cons}
-use Rattle.heap_model.specs.Bytes.{AreBytes}
-use Rattle.heap_model.specs.Database.{Database, DatabaseHeader, Entry, a_record, a_resource, entry_data, entry_with, data_in, has_resources, name_in, IsDatabaseName, HeaderFits}
-use Rattle.heap_model.specs.Files.{block_bytes}
-use Rattle.pdb_format.specs.Writable.{IsWritableEntry, HasFile}
-use Rattle.file_parts.specs.Texts.{app_name, sort_name, entry_name, name_if_data, named_entries, with_names, database_text}
-use Rattle.file_parts.specs.Words.{begins_name, is_name_byte, spelled_part}
-use Rattle.file_parts.specs.Reading.{read_database}
-use Rattle.file_parts.specs.Packing.{filled, part_at, filled_entries, with_parts}
-use Rattle.file_parts.specs.Laws.{IsPartName, IsNamedEntry, HasText}
+use Rattle.file_parts.proofs.AllWords.{◌≡◌, ℕ, zero, suc, ◌+◌, ◌/◌, ◌%◌, ◌^◌, ◌<◌, ◌≤◌, Bool, true, false, Option, Some, None, List, [], ◌∷◌, ◌++◌, length, map, take, refl, sym, ap, ◌∙◌, arith, append_assoc, append-nil, length-append, All, Ok, ◌==◌, AllZip, get_or-append_seam, decimal_digit, All-head, All-tail, All-nil, All-cons, AreBytes, Database, DatabaseHeader, Entry, a_record, a_resource, entry_data, entry_with, data_in, has_resources, name_in, IsDatabaseName, HeaderFits, block_bytes, IsWritableEntry, HasFile, app_name, sort_name, entry_name, name_if_data, named_entries, with_names, database_text, begins_name, is_name_byte, spelled_part, read_database, filled, part_at, filled_entries, with_parts, IsPartName, IsNamedEntry, HasText}
 use Rattle.file_parts.proofs.Names.{name_good}
 use Rattle.file_parts.proofs.TextLaws.{texts_are_read}
 

@@ -1,11 +1,5 @@
 -- A text is read by its header, and then by its entries.
-use Rattle.std.proofs.Common.{◌≡◌, ℕ, Bool, Option, List, [], sym, ap, ◌∙◌}
-use Rattle.std.specs.Prelude.{Ok, Err, Result}
-use Rattle.std.specs.Str.Lines.{lines}
-use Rattle.heap_model.specs.Database.{DatabaseHeader, Database, Entry, has_resources}
-use Rattle.script_lines.specs.declared.fault.LineFault.{LineFault}
-use Rattle.file_parts.specs.Left.{Left, left}
-use Rattle.file_parts.specs.Reading.{Read, database_with, header_with, read_database, read_database_from, read_entries, read_head, unless_fault}
+use Rattle.file_parts.proofs.AllWords.{◌≡◌, ℕ, Bool, Option, List, [], sym, ap, ◌∙◌, Ok, Err, Result, lines, DatabaseHeader, Database, Entry, has_resources, LineFault, Left, left, Read, database_with, header_with, read_database, read_database_from, read_entries, read_head, unless_fault}
 use Rattle.file_parts.specs.declared.header.Head.{Head}
 
 -- what comes of the entries

@@ -1,19 +1,5 @@
 -- The file that is written when a block is replaced: its blocks, its entries and its bytes.
-use Rattle.std.proofs.Common.{◌≡◌, ℕ, ◌+◌, ◌<◌, ◌≤◌, Option, None, List, length, get_or, refl, sym, ap, subst, ◌∙◌, arith}
-use Rattle.std.proofs.lemmas.Bool.{eq-eqb, ne_eqb}
-use Rattle.heap_model.specs.Lists.{times}
-use Rattle.heap_model.specs.Database.{Entry, a_record, a_resource, data_in, entry_count_in, entry_in, entry_with, entry_offset, has_resources}
-use Rattle.heap_model.specs.Files.{block_bytes, blocks_in, entries_end, offsets_in}
-use Rattle.laws_store.proofs.Times.{distinct-times}
-use Rattle.pdb_format.specs.Filler.{filler_in}
-use Rattle.pdb_format.proofs.FileBlocks.{block_count}
-use Rattle.pdb_format.proofs.GoodFiles.{offset_count}
-use Rattle.pdb_format.proofs.SortedStarts.{AreSorted}
-use Rattle.file_parts.specs.declared.replaced.Replacing.{Replacing}
-use Rattle.file_parts.specs.Exact.{ExactFile, IsExactly, exact_block, exact_database, exact_entry, exact_start}
-use Rattle.file_parts.specs.ExactUnpacking.{exact_of}
-use Rattle.file_parts.specs.ExactWriting.{HasValuesAt, IsOrdered}
-use Rattle.file_parts.specs.Replacing.{IsReplacing, block_in, block_replaced, exact_replacing}
+use Rattle.file_parts.proofs.AllWords.{◌≡◌, ℕ, ◌+◌, ◌<◌, ◌≤◌, Option, None, List, length, get_or, refl, sym, ap, subst, ◌∙◌, arith, eq-eqb, ne_eqb, times, Entry, a_record, a_resource, data_in, entry_count_in, entry_in, entry_with, entry_offset, has_resources, block_bytes, blocks_in, entries_end, offsets_in, distinct-times, filler_in, block_count, offset_count, AreSorted, Replacing, ExactFile, IsExactly, exact_block, exact_database, exact_entry, exact_start, exact_of, HasValuesAt, IsOrdered, IsReplacing, block_in, block_replaced, exact_replacing}
 use Rattle.file_parts.proofs.ExactBlocks.{place_of, starts_of}
 use Rattle.file_parts.proofs.ExactRanks.{apart, get_or-same}
 use Rattle.file_parts.proofs.ExactRead.{blocks_exact, entries_long, exact_entry_is, is_exactly}

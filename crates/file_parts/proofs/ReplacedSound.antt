@@ -1,25 +1,8 @@
 -- A file with a block replaced is read back as this file.
-use Rattle.std.proofs.Common.{◌≡◌, ℕ, ◌+◌, ◌<◌, ◌≤◌, Bool, true, false, Option, None, List, [], ◌∷◌, length, get_or, refl, sym, ap, subst, ◌∙◌, arith, inl, inr}
-use Rattle.std.specs.Prelude.{All, IfOk, Result, Ok, Err, ◌==◌, ◌&&◌, nat_lt, is_some, slice_index}
-use Rattle.std.proofs.lemmas.Bool.{and_from, and_parts, cases_lt, eq-eqb, eqb-true, ltb-true}
-use Rattle.std.proofs.lemmas.List.Elements.{All-head, All-tail, All-nil, All-cons}
-use Rattle.heap_model.specs.Lists.{times}
-use Rattle.heap_model.specs.Database.{Entry, a_record, a_resource, data_in, entry_with, has_resources}
-use Rattle.heap_model.specs.Files.{block_size, blocks_in}
-use Rattle.laws_store.proofs.Times.{contained-times, times-some}
-use Rattle.canonical_file.specs.Canonical.{most_bytes}
-use Rattle.pdb_format.specs.Writable.{IsWritableEntry}
-use Rattle.pdb_format.proofs.FileBlocks.{block_count}
-use Rattle.pdb_format.proofs.GoodFiles.{offset_count}
+use Rattle.file_parts.proofs.AllWords.{◌≡◌, ℕ, ◌+◌, ◌<◌, ◌≤◌, Bool, true, false, Option, None, List, [], ◌∷◌, length, get_or, refl, sym, ap, subst, ◌∙◌, arith, inl, inr, All, IfOk, Result, Ok, Err, ◌==◌, ◌&&◌, nat_lt, is_some, slice_index, and_from, and_parts, cases_lt, eq-eqb, eqb-true, ltb-true, All-head, All-tail, All-nil, All-cons, times, Entry, a_record, a_resource, data_in, entry_with, has_resources, block_size, blocks_in, contained-times, times-some, most_bytes, IsWritableEntry, block_count, offset_count, PlaceFault, IsPlaceFault, Replacing, ExactFile, exact_block, exact_bytes, exact_size, is_misplaced, exact_of, IsReplaced, IsReplacing, IsReplaceFault, Replaces, block_in, block_replaced, entries_replaced, bytes_replaced, exact_replacing, has_block_of_rank, size_fault}
 use Rattle.file_parts.specs.declared.replaced.Replaced.{Replaced}
 use Rattle.file_parts.specs.declared.replaced.ReplaceFault.{ReplaceFault}
-use Rattle.file_parts.specs.declared.exact_writing.PlaceFault.{PlaceFault}
 use Rattle.file_parts.specs.declared.exact_writing.PlaceFault.TheVariants as places
-use Rattle.file_parts.specs.ExactWriting.{IsPlaceFault}
-use Rattle.file_parts.specs.declared.replaced.Replacing.{Replacing}
-use Rattle.file_parts.specs.Exact.{ExactFile, exact_block, exact_bytes, exact_size, is_misplaced}
-use Rattle.file_parts.specs.ExactUnpacking.{exact_of}
-use Rattle.file_parts.specs.Replacing.{IsReplaced, IsReplacing, IsReplaceFault, Replaces, block_in, block_replaced, entries_replaced, bytes_replaced, exact_replacing, has_block_of_rank, size_fault}
 use Rattle.file_parts.proofs.ExactFits.{all_writable, count_small, file_header, file_name}
 use Rattle.file_parts.proofs.ExactFolders.{names_are}
 use Rattle.file_parts.proofs.ExactInside.{inside_some}

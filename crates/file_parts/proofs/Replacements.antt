@@ -1,11 +1,5 @@
 -- A file with one of its blocks replaced.
-use Rattle.std.proofs.Common.{◌≡◌, ℕ, zero, suc, ◌+◌, ◌<◌, Bool, true, false, Option, Some, None, List, [], ◌∷◌, length, get_or, map, refl, sym, ap, ◌∙◌, arith}
-use Rattle.std.specs.Prelude.{◌==◌}
-use Rattle.std.proofs.lemmas.Bool.{eqb-true}
-use Rattle.std.proofs.lemmas.List.{get_or-map, length-map}
-use Rattle.heap_model.specs.Database.{Database, Entry, a_record, a_resource, data_in, entry_data, entry_with}
-use Rattle.file_parts.specs.Exact.{ExactFile, exact_block}
-use Rattle.file_parts.specs.Replacing.{block_replaced, entries_replaced, file_replaced}
+use Rattle.file_parts.proofs.AllWords.{◌≡◌, ℕ, zero, suc, ◌+◌, ◌<◌, Bool, true, false, Option, Some, None, List, [], ◌∷◌, length, get_or, map, refl, sym, ap, ◌∙◌, arith, ◌==◌, eqb-true, get_or-map, length-map, Database, Entry, a_record, a_resource, data_in, entry_data, entry_with, ExactFile, exact_block, block_replaced, entries_replaced, file_replaced}
 
 -- ---- its entries
 

@@ -1,25 +1,6 @@
 -- The text of a database is read as that database.
-use Rattle.std.proofs.Common.{◌≡◌, ◌==◌, ◌<◌, ◌≤◌, ◌+◌, ◌*◌, ◌/◌, ◌%◌, ◌^◌, zero, suc, ℕ, Bool, true, false, Option, Some, None, List, [], ◌∷◌, ◌++◌, length, refl, sym, ap, ◌∙◌, arith, append_assoc, append-nil, length-append}
-use Rattle.std.specs.Prelude.{All, Ok, nat_lt, nat_le, decimal, codes, slice_index}
-use Rattle.std.specs.List.{list_all}
-use Rattle.std.specs.Str.{bytes_eq}
-use Rattle.std.specs.Str.Lines.{lines}
-use Rattle.std.proofs.lemmas.Bool.{and_parts}
-use Rattle.std.proofs.lemmas.List.Elements.{All-head, All-tail}
-use Rattle.std.proofs.lemmas.List.Folds.{list_all-append}
-use Rattle.hex.specs.Hex.{encode_lower, encode_with, hex_digit_value, lower_digits}
-use Rattle.hex.proofs.HexLemmas.{IsDigits-lower_digits}
-use Rattle.heap_model.specs.Bytes.{AreBytes, u16_bytes, u32_bytes}
-use Rattle.heap_model.specs.Database.{DatabaseHeader, Database, Entry, a_record, a_resource, HeaderFits, has_resources, is_deleted}
-use Rattle.palm_text.specs.Pieces.{script_spelled}
-use Rattle.script_lines.specs.Words.{is_passed_over, words_of, with_word}
-use Rattle.script_lines.specs.Spellings.{digit_value, hex_below, number_behind, number_below, spelled_four}
-use Rattle.script_lines.proofs.ReadBack.{are_four, texts_are_read_back, four_bytes_are_read_back}
-use Rattle.file_parts.specs.Texts.{header_lines, part_text, info_line, info_lines, entry_line, entry_lines, body_lines, database_text}
-use Rattle.file_parts.specs.Left.{left}
-use Rattle.file_parts.specs.Words.{begins_name, is_name_byte, has_name_bytes, spelled_part, part_or, is_name, spelled_name, entry_word, words_after, read_entry}
-use Rattle.file_parts.specs.Reading.{field, number, read_title, read_counts, read_kinds, read_infos, read_entries, read_database, read_database_from}
-use Rattle.file_parts.specs.Laws.{HasText, IsPartName, IsNamedEntry, TextsAreRead}
+use Rattle.file_parts.proofs.AllWords.{◌≡◌, ◌<◌, ◌≤◌, ◌+◌, ◌*◌, ◌/◌, ◌%◌, ◌^◌, zero, suc, ℕ, Bool, true, false, Option, Some, None, List, [], ◌∷◌, ◌++◌, length, refl, sym, ap, ◌∙◌, arith, append_assoc, append-nil, length-append, All, Ok, nat_lt, nat_le, decimal, codes, slice_index, list_all, bytes_eq, lines, and_parts, All-head, All-tail, list_all-append, encode_lower, encode_with, hex_digit_value, lower_digits, IsDigits-lower_digits, AreBytes, u16_bytes, u32_bytes, DatabaseHeader, Database, Entry, a_record, a_resource, HeaderFits, has_resources, is_deleted, script_spelled, is_passed_over, words_of, with_word, digit_value, hex_below, number_behind, number_below, spelled_four, are_four, texts_are_read_back, four_bytes_are_read_back, header_lines, part_text, info_line, info_lines, entry_line, entry_lines, body_lines, database_text, left, begins_name, is_name_byte, has_name_bytes, spelled_part, part_or, is_name, spelled_name, entry_word, words_after, read_entry, field, number, read_title, read_counts, read_kinds, read_infos, read_entries, read_database, read_database_from, HasText, IsPartName, IsNamedEntry, TextsAreRead}
+use Rattle.std.proofs.Common.{◌==◌}
 use Rattle.file_parts.proofs.WordTexts.{IsWord, is_shown, is_plain, plain_is_word, hex_plain, text_is_word, number_back, number_is_word, line_first}
 
 -- ---- hex numbers

@@ -1,21 +1,7 @@
 -- A file that is put together is taken apart as its parts, with the IDs that are given.
-use Rattle.std.proofs.Common.{◌≡◌, ℕ, ◌+◌, ◌<◌, ◌≤◌, Bool, true, false, Option, List, [], ◌∷◌, length, map, refl, sym, ap, subst, ◌∙◌, arith}
-use Rattle.std.specs.Prelude.{All, bit_and}
-use Rattle.std.specs.List.{AllZip, filter_map}
-use Rattle.std.proofs.lemmas.Nat.{and_le_l}
-use Rattle.std.proofs.lemmas.List.Elements.{All-head, All-tail, All-nil, All-cons}
-use Rattle.heap_model.specs.UniqueIds.{greatest_id, seed_in}
-use Rattle.heap_model.specs.Database.{Database, DatabaseHeader, Entry, a_record, a_resource, entry_data, entry_offset, has_resources, is_deleted, IsDatabaseName, HeaderFits}
-use Rattle.heap_model.specs.Store.{unique_id, unique_ids}
-use Rattle.heap_model.specs.Files.{kept_ids, idle, idle_attributes, idle_entry, Reads, first_block, file_of}
-use Rattle.pdb_format.specs.Writable.{IsWritableEntry, file_size, HasFile, IsKeptAs, IsReadBack}
-use Rattle.pdb_format.proofs.WrittenFiles.{file_reads, idle_twice, read_back, still_deleted}
-use Rattle.pdb_format.proofs.WrittenOffsets.{all_bytes}
+use Rattle.file_parts.proofs.AllWords.{◌≡◌, ℕ, ◌+◌, ◌<◌, ◌≤◌, Bool, true, false, Option, List, [], ◌∷◌, length, map, refl, sym, ap, subst, ◌∙◌, arith, All, bit_and, AllZip, filter_map, and_le_l, All-head, All-tail, All-nil, All-cons, greatest_id, seed_in, Database, DatabaseHeader, Entry, a_record, a_resource, entry_data, entry_offset, has_resources, is_deleted, IsDatabaseName, HeaderFits, unique_id, unique_ids, kept_ids, idle, idle_attributes, idle_entry, Reads, first_block, file_of, IsWritableEntry, file_size, HasFile, IsKeptAs, IsReadBack, file_reads, idle_twice, read_back, still_deleted, all_bytes, IsCanonical, fits_seeded, UnpacksBack}
 use Rattle.file_ids.proofs.GivenLaws.{given_distinct}
-use Rattle.canonical_file.specs.Canonical.{IsCanonical}
 use Rattle.canonical_file.proofs.GivenFit.{given_fit}
-use Rattle.canonical_file.proofs.Kept.{fits_seeded}
-use Rattle.file_parts.specs.Laws.{UnpacksBack}
 use Rattle.file_parts.proofs.PackedBack.{none_zero, zip_idle}
 
 -- ---- the IDs that are given

@@ -1,13 +1,6 @@
 -- Exact files that are listed by values, and values that no file has.
-use Rattle.std.proofs.Common.{◌≡◌, ◌<◌, ◌+◌, ◌++◌, ◌∷◌, [], ℕ, suc, Bool, true, false, Option, Some, None, List, length, take, refl, sym, ap, subst, ◌∙◌, arith, inl, inr, append_assoc, append-nil}
-use Rattle.std.specs.Prelude.{Ok, Err, map, slice_index}
-use Rattle.std.proofs.lemmas.List.{map-append, take_more}
-use Rattle.heap_model.specs.Database.{Database, data_in}
-use Rattle.script_lines.specs.declared.fault.LineFault.{LineFault}
-use Rattle.file_parts.specs.ExactReading.{after_name_fault, exact_with, is_after_name, order_fault}
-use Rattle.file_parts.specs.ExactTexts.{ExactText, is_other}
-use Rattle.file_parts.specs.Values.{HasBadRank, IsNoExactFile, valued_head, valued_text}
-use Rattle.file_parts.specs.declared.exact_lines.OrderLine.{OrderLine}
+use Rattle.file_parts.proofs.AllWords.{◌≡◌, ◌<◌, ◌+◌, ◌++◌, ◌∷◌, [], ℕ, suc, Bool, true, false, Option, Some, None, List, length, take, refl, sym, ap, subst, ◌∙◌, arith, inl, inr, append_assoc, append-nil, Ok, Err, slice_index, map-append, take_more, Database, data_in, LineFault, after_name_fault, exact_with, is_after_name, order_fault, ExactText, is_other, HasBadRank, IsNoExactFile, valued_head, valued_text, OrderLine}
+use Rattle.std.specs.Prelude.{map}
 use Rattle.file_parts.proofs.ExactListings.{faulty, said}
 
 -- one rank more has a line

@@ -1,18 +1,5 @@
 -- If a file without fault is exactly what is listed by values, no value is refused.
-use Rattle.std.proofs.Common.{◌≡◌, ℕ, ◌+◌, ◌^◌, ◌<◌, Bool, true, false, Option, None, List, [], ◌∷◌, ◌++◌, length, get_or, take, sym, ap, subst, ◌∙◌, arith, inl, inr, length-append}
-use Rattle.std.specs.Prelude.{All, filter, is_some, slice_index}
-use Rattle.std.specs.List.{range_with_len}
-use Rattle.std.proofs.lemmas.List.{get_or_append_left, take-append-le}
-use Rattle.std.proofs.lemmas.List.Elements.{All-cons, All-head, All-nil, All-tail}
-use Rattle.heap_model.specs.Bytes.{AreBytes}
-use Rattle.heap_model.specs.Database.{Database, Entry, a_record, a_resource, IsDatabaseName, data_in, entry_with, has_resources}
-use Rattle.pdb_format.specs.Writable.{IsWritableEntry}
-use Rattle.pdb_format.proofs.FileBlocks.{block_count}
-use Rattle.pdb_format.proofs.GoodFiles.{offset_count}
-use Rattle.file_parts.specs.Packing.{filled, filled_entries, part_at, with_parts}
-use Rattle.file_parts.specs.Exact.{IsExactly, exact_database}
-use Rattle.file_parts.specs.ExactTexts.{exact_of_parts, is_other}
-use Rattle.file_parts.specs.Values.{IsNoExactFile, valued_text}
+use Rattle.file_parts.proofs.AllWords.{◌≡◌, ℕ, ◌+◌, ◌^◌, ◌<◌, Bool, true, false, Option, None, List, [], ◌∷◌, ◌++◌, length, get_or, take, sym, ap, subst, ◌∙◌, arith, inl, inr, length-append, All, filter, is_some, slice_index, range_with_len, get_or_append_left, take-append-le, All-cons, All-head, All-nil, All-tail, AreBytes, Database, Entry, a_record, a_resource, IsDatabaseName, data_in, entry_with, has_resources, IsWritableEntry, block_count, offset_count, filled, filled_entries, part_at, with_parts, IsExactly, exact_database, exact_of_parts, is_other, IsNoExactFile, valued_text}
 use Rattle.file_parts.proofs.ExactFits.{all_writable, count_small, database_same}
 use Rattle.file_parts.proofs.ExactFolders.{names_are}
 use Rattle.file_parts.proofs.ExactNames.{after_right}

@@ -1,10 +1,5 @@
 -- The whole text of a database that is read.
-use Rattle.std.proofs.Common.{◌≡◌, ℕ, List, ◌++◌, None, get_or, ap}
-use Rattle.std.specs.Prelude.{codes}
-use Rattle.heap_model.specs.Database.{DatabaseHeader}
-use Rattle.heap_model.specs.Files.{blocks_in}
-use Rattle.pdb_format.specs.ReadFiles.{header_read, entries_read, database_read}
-use Rattle.file_parts.specs.Texts.{app_name, sort_name, name_if_data, named_entries, with_names, header_lines, info_line, info_lines, entry_lines, body_lines, database_text}
+use Rattle.file_parts.proofs.AllWords.{◌≡◌, ℕ, List, ◌++◌, None, get_or, ap, codes, DatabaseHeader, blocks_in, header_read, entries_read, database_read, app_name, sort_name, name_if_data, named_entries, with_names, header_lines, info_line, info_lines, entry_lines, body_lines, database_text}
 
 -- the lines after those of the header
 abbrev pub rest_of : List ℕ → List ℕ → List ℕ

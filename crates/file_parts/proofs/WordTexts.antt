@@ -1,21 +1,7 @@
 -- Words as they are written, and as they are read: alone, before others, and as values.
-use Rattle.std.proofs.Common.{◌≡◌, ◌==◌, ◌<◌, ◌≤◌, ◌+◌, ◌*◌, ◌-◌, ◌/◌, ◌%◌, ◌^◌, zero, suc, ℕ, Bool, true, false, Some, None, List, [], ◌∷◌, ◌++◌, length, get_or, take, drop, refl, ap, ◌∙◌, arith, append_assoc, append-nil, length-append}
-use Rattle.std.specs.Prelude.{Ok, ◌&&◌, nat_lt, nat_le, slice_index, decimal, codes}
-use Rattle.std.specs.List.{list_all}
-use Rattle.std.specs.Str.{bytes_eq}
-use Rattle.std.specs.Str.Lines.{lines, strip_carriage_return}
-use Rattle.std.proofs.Math.Seq.{take-append_seam, drop-append_seam}
-use Rattle.std.proofs.lemmas.Bool.{and_parts}
-use Rattle.std.proofs.lemmas.List.Folds.{list_all-append}
-use Rattle.std.proofs.lemmas.Fmt.{decimal_by_steps, length-decimal-le, decimal_nonempty}
-use Rattle.hex.specs.Hex.{encode_lower, encode_with, hex_digit_value, lower_digits}
-use Rattle.hex.proofs.HexLemmas.{IsDigits-lower_digits}
-use Rattle.heap_model.specs.Bytes.{AreBytes}
-use Rattle.palm_text.specs.Pieces.{is_printable, closed, script_quoted, marked_hex, script_spelled}
-use Rattle.script_lines.specs.Words.{is_blank, words_of, plain_word, quoted_word, with_word}
-use Rattle.script_lines.specs.Spellings.{below, digit_value, number_below, number_behind, number_in, spelled_number}
+use Rattle.file_parts.proofs.AllWords.{◌≡◌, ◌<◌, ◌≤◌, ◌+◌, ◌*◌, ◌-◌, ◌/◌, ◌%◌, ◌^◌, zero, suc, ℕ, Bool, true, false, Some, None, List, [], ◌∷◌, ◌++◌, length, get_or, take, drop, refl, ap, ◌∙◌, arith, append_assoc, append-nil, length-append, Ok, ◌&&◌, nat_lt, nat_le, slice_index, decimal, codes, list_all, bytes_eq, lines, strip_carriage_return, take-append_seam, drop-append_seam, and_parts, list_all-append, decimal_by_steps, length-decimal-le, decimal_nonempty, encode_lower, encode_with, hex_digit_value, lower_digits, IsDigits-lower_digits, AreBytes, is_printable, closed, script_quoted, marked_hex, script_spelled, is_blank, words_of, plain_word, quoted_word, with_word, below, digit_value, number_below, number_behind, number_in, spelled_number, texts_are_words}
+use Rattle.std.proofs.Common.{◌==◌}
 use Rattle.script_lines.proofs.LineLaws.{feed, lines_ended, drop_next}
-use Rattle.script_lines.proofs.ReadBack.{texts_are_words}
 
 -- from a space to `~`, and the same without a space and the two bytes after it
 abbrev pub is_shown : ℕ → Bool

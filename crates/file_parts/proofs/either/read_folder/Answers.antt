@@ -1,6 +1,4 @@
-use Rattle.std.proofs.Common.{◌≡◌, Bool, true, false, ap, ◌∙◌, arith, rules}
-use Rattle.std.specs.Prelude.{Ok}
-use Rattle.file_parts.specs.ExactReading.{read_exact_line}
+use Rattle.file_parts.proofs.AllWords.{◌≡◌, Bool, true, false, ap, ◌∙◌, arith, rules, Ok, read_exact_line}
 use Rattle.file_parts.specs.declared.either.ListedFolder.TheVariants.{Canonical, Exact}
 use Rattle.file_parts.proofs.FolderTexts.{faulty_canonically, faulty_exactly, faulty_first, read_canonically, read_exactly}
 use Rattle.file_parts.proofs.either.read_folder.Goals as goal

@@ -1,13 +1,4 @@
-use Rattle.std.proofs.Common.{◌∷◌, ◌++◌, [], List, ℕ, Option, length, sym, ap, subst, ◌∙◌, arith}
-use Rattle.std.specs.Prelude.{All, Err, Result}
-use Rattle.std.proofs.lemmas.List.{length-map}
-use Rattle.std.proofs.Common.{length-append}
-use Rattle.heap_model.specs.Database.{Entry}
-use Rattle.script_lines.specs.declared.fault.ScriptFault.{ScriptFault}
-use Rattle.file_parts.specs.declared.entries.ListedEntry.{ListedEntry}
-use Rattle.file_parts.specs.Listed.{IsGoodEntry, entry_listed, entries_listed}
-use Rattle.file_parts.specs.Reading.{read_entries, unless_bad}
-use Rattle.file_parts.proofs.ListedEntries.{entries_on, entries_end, next_shorter, listed_more, all_more}
+use Rattle.file_parts.proofs.AllLaws.{◌∷◌, ◌++◌, [], List, ℕ, Option, length, sym, ap, subst, ◌∙◌, arith, All, Err, Result, length-map, length-append, Entry, ScriptFault, ListedEntry, IsGoodEntry, entry_listed, entries_listed, read_entries, unless_bad, entries_on, entries_end, next_shorter, listed_more, all_more}
 use Rattle.file_parts.proofs.entries.read_entries.Goals as goal
 
 pub returns-in-None-clause-ok : goal.returns-in-None-clause-ok

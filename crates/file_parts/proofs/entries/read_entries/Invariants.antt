@@ -1,7 +1,4 @@
-use Rattle.std.proofs.Common.{◌≡◌, ◌≤◌, [], length}
-use Rattle.std.specs.Prelude.{All}
-use Rattle.file_parts.specs.Listed.{IsGoodEntry, entries_listed}
-use Rattle.file_parts.specs.Reading.{read_entries}
+use Rattle.file_parts.proofs.AllWords.{◌≡◌, ◌≤◌, [], length, All, IsGoodEntry, entries_listed, read_entries}
 use Rattle.file_parts.proofs.entries.read_entries.Given as goal
 
 -- what is read goes on from the entries so far

@@ -1,5 +1,4 @@
-use Rattle.std.proofs.Common.{◌^◌, sym, ◌∙◌}
-use Rattle.script_lines.specs.Spellings.{spelled_number, number_in}
+use Rattle.file_parts.proofs.AllWords.{◌^◌, sym, ◌∙◌, spelled_number, number_in}
 use Rattle.file_parts.proofs.GoodWords.{good_value, below_small, part_missing}
 use Rattle.file_parts.proofs.entries.record_of.Goals as goal
 

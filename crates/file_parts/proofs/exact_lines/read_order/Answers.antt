@@ -1,7 +1,4 @@
-use Rattle.std.proofs.Common.{List, Option, length, sym, ap, ◌∙◌, arith}
-use Rattle.std.specs.Prelude.{Ok}
-use Rattle.file_parts.specs.ExactReading.{read_order}
-use Rattle.file_parts.specs.declared.exact_lines.OrderLine.{OrderLine}
+use Rattle.file_parts.proofs.AllWords.{List, Option, length, sym, ap, ◌∙◌, arith, Ok, read_order, OrderLine}
 use Rattle.file_parts.proofs.ExactLines.{order_more, order_ends, order_faulty, order_shorter}
 use Rattle.file_parts.proofs.exact_lines.read_order.Goals as goal
 

@@ -1,5 +1,4 @@
-use Rattle.std.proofs.Common.{◌≡◌, ◌≤◌, ℕ, [], length}
-use Rattle.file_parts.specs.ExactReading.{read_order}
+use Rattle.file_parts.proofs.AllWords.{◌≡◌, ◌≤◌, ℕ, [], length, read_order}
 use Rattle.file_parts.proofs.exact_lines.read_order.Given as goal
 
 -- what is read goes on from the lines so far

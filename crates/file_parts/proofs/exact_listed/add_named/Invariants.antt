@@ -1,8 +1,4 @@
-use Rattle.std.proofs.Common.{◌≡◌, [], length, map, take, drop}
-use Rattle.heap_model.specs.Database.{data_in}
-use Rattle.file_parts.specs.Listed.{database_listed}
-use Rattle.file_parts.specs.ExactReading.{order_fault}
-use Rattle.file_parts.specs.ExactListed.{AreMarked}
+use Rattle.file_parts.proofs.AllWords.{◌≡◌, [], length, map, take, drop, data_in, database_listed, order_fault, AreMarked}
 use Rattle.file_parts.proofs.exact_listed.add_named.Given as goal
 
 -- the ranks of the lines so far are added and marked, and the first faulty line is one of the others

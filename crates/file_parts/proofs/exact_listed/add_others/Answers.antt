@@ -1,8 +1,4 @@
-use Rattle.std.proofs.Common.{◌≡◌, ◌++◌, ℕ, List, Option, length, ap, ◌∙◌, rules}
-use Rattle.heap_model.specs.Database.{data_in}
-use Rattle.file_parts.specs.Listed.{database_listed}
-use Rattle.file_parts.specs.ExactListed.{free_ranks}
-use Rattle.file_parts.proofs.ExactOrders.{free_added, free_left_out}
+use Rattle.file_parts.proofs.AllLaws.{◌≡◌, ◌++◌, ℕ, List, Option, length, ap, ◌∙◌, rules, data_in, database_listed, free_ranks, free_added, free_left_out}
 use Rattle.file_parts.proofs.exact_listed.add_others.Goals as goal
 use Rattle.file_parts.proofs.exact_listed.add_others.Goals.{then-is_free+in_ok-push, else-is_free}
 

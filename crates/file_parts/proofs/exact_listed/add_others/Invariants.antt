@@ -1,7 +1,4 @@
-use Rattle.std.proofs.Common.{◌≡◌, ◌++◌}
-use Rattle.heap_model.specs.Database.{data_in}
-use Rattle.file_parts.specs.Listed.{database_listed}
-use Rattle.file_parts.specs.ExactListed.{free_ranks}
+use Rattle.file_parts.proofs.AllWords.{◌≡◌, ◌++◌, data_in, database_listed, free_ranks}
 use Rattle.file_parts.proofs.exact_listed.add_others.Given as goal
 
 -- the ranks without a mark so far are added

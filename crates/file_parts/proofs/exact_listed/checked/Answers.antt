@@ -1,9 +1,4 @@
-use Rattle.std.proofs.Common.{◌≡◌, List, Some, None, [], map, ap, subst, ◌∙◌}
-use Rattle.heap_model.specs.Database.{data_in}
-use Rattle.file_parts.specs.Listed.{database_listed}
-use Rattle.file_parts.specs.ExactTexts.{order_of}
-use Rattle.file_parts.specs.ExactReading.{head_of, order_fault}
-use Rattle.file_parts.specs.declared.exact_lines.OrderLine.{OrderLine}
+use Rattle.file_parts.proofs.AllWords.{◌≡◌, List, Some, None, [], map, ap, subst, ◌∙◌, data_in, database_listed, order_of, head_of, order_fault, OrderLine}
 use Rattle.file_parts.proofs.ExactListings.{all_good, bad_after, bad_order}
 use Rattle.file_parts.proofs.exact_listed.checked.Goals as goal
 

@@ -1,9 +1,5 @@
-use Rattle.std.proofs.Common.{◌≡◌, List, ℕ, Option, length, map, sym, subst, arith, rules}
+use Rattle.file_parts.proofs.AllLaws.{◌≡◌, List, ℕ, Option, length, map, sym, subst, arith, rules, data_in, database_listed, AreMarked, ranks_all}
 use Rattle.std.proofs.lemmas.Grind.{common_steps}
-use Rattle.heap_model.specs.Database.{data_in}
-use Rattle.file_parts.specs.Listed.{database_listed}
-use Rattle.file_parts.specs.ExactListed.{AreMarked}
-use Rattle.file_parts.proofs.ExactOrders.{ranks_all}
 use Rattle.file_parts.proofs.exact_listed.ranks_of.Goals as goal
 
 pub returns-in-Ok-add_others-clause-ranks : goal.returns-in-Ok-add_others-clause-ranks

@@ -1,6 +1,4 @@
-use Rattle.std.proofs.Common.{ap, ◌∙◌}
-use Rattle.std.proofs.lemmas.Result.{IfErr-weaker, IfOk-weaker}
-use Rattle.file_parts.specs.ExactReading.{exact_with, head_of}
+use Rattle.file_parts.proofs.AllWords.{ap, ◌∙◌, IfErr-weaker, IfOk-weaker, exact_with, head_of}
 use Rattle.file_parts.proofs.exact_listed.read_after_lines.Goals as goal
 
 pub returns-in-Ok-clause-ok : goal.returns-in-Ok-clause-ok

@@ -1,6 +1,4 @@
-use Rattle.std.proofs.Common.{ap, ◌∙◌}
-use Rattle.std.proofs.lemmas.Result.{IfErr-weaker, IfOk-weaker}
-use Rattle.file_parts.specs.ExactReading.{unless_head}
+use Rattle.file_parts.proofs.AllWords.{ap, ◌∙◌, IfErr-weaker, IfOk-weaker, unless_head}
 use Rattle.file_parts.proofs.exact_listed.read_listed_exact.Goals as goal
 
 pub returns-in-Ok-clause-ok : goal.returns-in-Ok-clause-ok

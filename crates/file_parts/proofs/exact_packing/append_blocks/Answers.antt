@@ -1,12 +1,4 @@
-use Rattle.std.proofs.Common.{◌≡◌, ◌<◌, ◌≤◌, ◌++◌, ℕ, List, Option, length, get_or, refl, ap, ◌∙◌, arith}
-use Rattle.std.proofs.lemmas.List.{take_all}
-use Rattle.heap_model.specs.Database.{data_in}
-use Rattle.file_parts.specs.Listed.{database_listed}
-use Rattle.file_parts.specs.Exact.{exact_block}
-use Rattle.file_parts.specs.ExactListed.{exact_packed}
-use Rattle.file_parts.proofs.ExactInside.{rank_inside}
-use Rattle.file_parts.proofs.ExactPacked.{blocks_whole}
-use Rattle.file_parts.proofs.ExactPlaces.{blocks_of}
+use Rattle.file_parts.proofs.AllLaws.{◌≡◌, ◌<◌, ◌≤◌, ◌++◌, ℕ, List, Option, length, get_or, refl, ap, ◌∙◌, arith, take_all, data_in, database_listed, exact_block, exact_packed, rank_inside, blocks_whole, blocks_of}
 use Rattle.file_parts.proofs.exact_packing.append_blocks.Goals as goal
 
 pub block_of-requires-clause-inside : goal.block_of-requires-clause-inside

@@ -1,8 +1,4 @@
-use Rattle.std.proofs.Common.{◌≡◌, ◌++◌, take}
-use Rattle.std.specs.List.{flat_map}
-use Rattle.heap_model.specs.Files.{block_bytes}
-use Rattle.file_parts.specs.Exact.{exact_block}
-use Rattle.file_parts.specs.ExactListed.{exact_packed}
+use Rattle.file_parts.proofs.AllWords.{◌≡◌, ◌++◌, take, flat_map, block_bytes, exact_block, exact_packed}
 use Rattle.file_parts.proofs.exact_packing.append_blocks.Given as goal
 
 -- the blocks of the ranks so far are appended

@@ -1,9 +1,4 @@
-use Rattle.std.proofs.Common.{◌≡◌, ◌+◌, ◌<◌, ◌≤◌, ◌++◌, ℕ, List, length, get_or, refl, sym, ap, ◌∙◌, arith, append-nil}
-use Rattle.std.specs.List.{flat_map}
-use Rattle.heap_model.specs.Database.{Entry, entry_bytes, entry_with}
-use Rattle.db_format.specs.EitherEntry.{entry_of}
-use Rattle.file_parts.specs.declared.entries.ListedEntry.{ListedEntry}
-use Rattle.file_parts.proofs.ExactPacked.{entries_whole, entry_more}
+use Rattle.file_parts.proofs.AllLaws.{◌≡◌, ◌+◌, ◌<◌, ◌≤◌, ◌++◌, ℕ, List, length, get_or, refl, sym, ap, ◌∙◌, arith, append-nil, flat_map, Entry, entry_bytes, entry_with, entry_of, ListedEntry, entries_whole, entry_more}
 use Rattle.file_parts.proofs.exact_packing.append_entries.Goals as goal
 
 pub loop-index-init : goal.loop-index-init

@@ -1,8 +1,4 @@
-use Rattle.std.proofs.Common.{◌≡◌, ◌++◌, ℕ, List, take}
-use Rattle.std.specs.List.{flat_map}
-use Rattle.heap_model.specs.Database.{entry_bytes}
-use Rattle.file_parts.specs.Exact.{exact_placed}
-use Rattle.file_parts.specs.ExactListed.{AreOffsets, exact_packed}
+use Rattle.file_parts.proofs.AllWords.{◌≡◌, ◌++◌, ℕ, List, take, flat_map, entry_bytes, exact_placed, AreOffsets, exact_packed}
 use Rattle.file_parts.proofs.exact_packing.append_entries.Given as goal
 
 -- the entries so far are appended

@@ -1,9 +1,4 @@
-use Rattle.std.proofs.Common.{◌≡◌, ◌-◌, ℕ, List, Option, length, drop, take, sym, ap, ◌∙◌, arith}
-use Rattle.std.specs.Prelude.{option_map, replicate}
-use Rattle.std.proofs.lemmas.List.{drop-replicate, take-replicate}
-use Rattle.file_parts.specs.ExactTexts.{after_name_of}
-use Rattle.file_parts.specs.declared.exact_lines.AfterName.{AfterName}
-use Rattle.file_parts.proofs.ExactPacked.{appended_twice}
+use Rattle.file_parts.proofs.AllLaws.{◌≡◌, ◌-◌, ℕ, List, Option, length, drop, take, sym, ap, ◌∙◌, arith, option_map, replicate, drop-replicate, take-replicate, after_name_of, AfterName, appended_twice}
 use Rattle.file_parts.proofs.exact_packing.append_name.Goals as goal
 
 -- the zeros after a name of this length

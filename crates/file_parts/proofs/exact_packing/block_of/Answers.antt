@@ -1,7 +1,4 @@
-use Rattle.std.proofs.Common.{◌<◌, length, ◌∙◌, arith}
-use Rattle.heap_model.specs.Database.{data_in}
-use Rattle.file_parts.specs.Listed.{database_listed}
-use Rattle.file_parts.proofs.ExactPacked.{block_is}
+use Rattle.file_parts.proofs.AllLaws.{◌<◌, length, ◌∙◌, arith, data_in, database_listed, block_is}
 use Rattle.file_parts.proofs.exact_packing.block_of.Goals as goal
 
 pub returns : goal.returns

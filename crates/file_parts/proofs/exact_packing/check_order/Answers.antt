@@ -1,6 +1,4 @@
-use Rattle.std.proofs.Common.{ℕ, ◌≡◌, false, sym, ◌∙◌, below_more}
-use Rattle.file_parts.specs.Exact.{is_misplaced}
-use Rattle.file_parts.specs.ExactListed.{exact_packed}
+use Rattle.file_parts.proofs.AllWords.{ℕ, ◌≡◌, false, sym, ◌∙◌, below_more, is_misplaced, exact_packed}
 use Rattle.file_parts.proofs.exact_packing.check_order.Goals as goal
 
 pub loop-index-preserved : goal.loop-index-preserved

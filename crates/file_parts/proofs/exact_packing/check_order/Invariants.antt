@@ -1,6 +1,4 @@
-use Rattle.std.proofs.Common.{◌≡◌, ◌<◌, ℕ, false}
-use Rattle.file_parts.specs.Exact.{is_misplaced}
-use Rattle.file_parts.specs.ExactListed.{exact_packed}
+use Rattle.file_parts.proofs.AllWords.{◌≡◌, ◌<◌, ℕ, false, is_misplaced, exact_packed}
 use Rattle.file_parts.proofs.exact_packing.check_order.Given as goal
 
 -- no block so far is misplaced

@@ -1,10 +1,4 @@
-use Rattle.std.proofs.Common.{◌≡◌, ◌++◌, ◌∙◌}
-use Rattle.std.proofs.lemmas.Result.{IfErr-weaker, IfOk-weaker}
-use Rattle.file_parts.specs.Exact.{exact_tail}
-use Rattle.file_parts.specs.ExactListed.{exact_packed}
-use Rattle.file_parts.specs.declared.packing.PackFault.TheVariants.{OutOfMemory}
-use Rattle.file_parts.proofs.ExactPacked.{large_fault, misplaced_fault, misplaced_memory, with_all}
-use Rattle.file_parts.proofs.ExactPackedBack.{packed_long}
+use Rattle.file_parts.proofs.AllLaws.{◌≡◌, ◌++◌, ◌∙◌, IfErr-weaker, IfOk-weaker, exact_tail, exact_packed, OutOfMemory, large_fault, misplaced_fault, misplaced_memory, with_all, packed_long}
 use Rattle.file_parts.proofs.exact_packing.exact_head.Goals as goal
 
 pub returns-in-Ok-clause-packed : goal.returns-in-Ok-clause-packed

@@ -1,8 +1,4 @@
-use Rattle.std.proofs.Common.{◌+◌, length, ◌∙◌, arith}
-use Rattle.file_parts.specs.Exact.{ExactFile, exact_size}
-use Rattle.file_parts.specs.ExactListed.{exact_packed}
-use Rattle.file_parts.proofs.ExactPacked.{start_is}
-use Rattle.file_parts.proofs.PackedFiles.{refused_more}
+use Rattle.file_parts.proofs.AllLaws.{◌+◌, length, ◌∙◌, arith, ExactFile, exact_size, exact_packed, start_is, refused_more}
 use Rattle.file_parts.proofs.exact_packing.first_offset.Goals as goal
 
 pub returns-in-Ok-clause-is : goal.returns-in-Ok-clause-is

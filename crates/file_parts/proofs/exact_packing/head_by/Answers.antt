@@ -1,7 +1,4 @@
-use Rattle.std.proofs.Common.{ℕ, List, ◌++◌, drop, take, sym, ap, subst, ◌∙◌}
-use Rattle.file_parts.specs.Exact.{ExactFile, exact_placed}
-use Rattle.file_parts.specs.ExactListed.{AreOffsets, exact_packed}
-use Rattle.file_parts.proofs.ExactPacked.{fields_taken, joined_head}
+use Rattle.file_parts.proofs.AllLaws.{ℕ, List, ◌++◌, drop, take, sym, ap, subst, ◌∙◌, ExactFile, exact_placed, AreOffsets, exact_packed, fields_taken, joined_head}
 use Rattle.file_parts.proofs.exact_packing.head_by.Goals as goal
 
 pub returns-clause-head : goal.returns-clause-head

@@ -1,9 +1,4 @@
-use Rattle.std.proofs.Common.{◌<◌, ℕ, List, length, refl, sym, ap, ◌∙◌, arith}
-use Rattle.heap_model.specs.Database.{Database}
-use Rattle.file_parts.specs.declared.entries.ListedEntry.{ListedEntry}
-use Rattle.file_parts.specs.Exact.{exact_placed}
-use Rattle.file_parts.specs.ExactListed.{exact_packed}
-use Rattle.file_parts.proofs.ExactPacked.{placed_count}
+use Rattle.file_parts.proofs.AllLaws.{◌<◌, ℕ, List, length, refl, sym, ap, ◌∙◌, arith, Database, ListedEntry, exact_placed, exact_packed, placed_count}
 use Rattle.file_parts.proofs.exact_packing.header_at.Goals as goal
 
 pub returns : goal.returns

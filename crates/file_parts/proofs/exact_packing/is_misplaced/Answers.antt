@@ -1,7 +1,4 @@
-use Rattle.std.proofs.Common.{◌<◌, ℕ, List, Option, length, get_or, refl, sym, subst, ◌∙◌, arith}
-use Rattle.heap_model.specs.Database.{data_in}
-use Rattle.file_parts.specs.Listed.{database_listed}
-use Rattle.file_parts.proofs.ExactInside.{rank_inside}
+use Rattle.file_parts.proofs.AllLaws.{◌<◌, ℕ, List, Option, length, get_or, refl, sym, subst, ◌∙◌, arith, data_in, database_listed, rank_inside}
 use Rattle.file_parts.proofs.exact_packing.is_misplaced.Goals as goal
 
 pub block_of-requires-clause-inside : goal.block_of-requires-clause-inside

@@ -1,6 +1,4 @@
-use Rattle.std.proofs.Common.{sym, subst}
-use Rattle.std.proofs.lemmas.Result.{IfErr-weaker, IfOk-weaker}
-use Rattle.file_parts.specs.ExactListed.{IsExactPackFault, IsExactlyPacked}
+use Rattle.file_parts.proofs.AllWords.{sym, subst, IfErr-weaker, IfOk-weaker, IsExactPackFault, IsExactlyPacked}
 use Rattle.file_parts.proofs.exact_packing.pack_exact.Goals as goal
 
 pub returns-in-Ok-clause-packed : goal.returns-in-Ok-clause-packed

@@ -1,14 +1,4 @@
-use Rattle.std.proofs.Common.{◌≡◌, ◌+◌, ◌<◌, ◌≤◌, ℕ, List, Option, length, sym, ap, subst, ◌∙◌, arith}
-use Rattle.std.proofs.lemmas.List.{length-replicate, take_all}
-use Rattle.heap_model.specs.Lists.{times}
-use Rattle.heap_model.specs.Database.{data_in}
-use Rattle.file_parts.specs.Listed.{database_listed}
-use Rattle.file_parts.specs.Exact.{ExactFile, exact_block, exact_size, exact_start}
-use Rattle.file_parts.specs.ExactListed.{exact_packed}
-use Rattle.file_parts.proofs.ExactInside.{ranks_once}
-use Rattle.file_parts.proofs.ExactPacked.{blocks_whole, offsets_are, size_is}
-use Rattle.file_parts.proofs.ExactPlaces.{ArePlaced, placed_next, placed_none, size_before}
-use Rattle.file_parts.proofs.PackedFiles.{refused_more}
+use Rattle.file_parts.proofs.AllLaws.{◌≡◌, ◌+◌, ◌<◌, ◌≤◌, ℕ, List, Option, length, sym, ap, subst, ◌∙◌, arith, length-replicate, take_all, times, data_in, database_listed, ExactFile, exact_block, exact_size, exact_start, exact_packed, ranks_once, blocks_whole, offsets_are, size_is, ArePlaced, placed_next, placed_none, size_before, refused_more}
 use Rattle.file_parts.proofs.exact_packing.place_ranks.Goals as goal
 
 pub loop-index-init : goal.loop-index-init

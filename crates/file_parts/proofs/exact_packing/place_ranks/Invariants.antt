@@ -1,10 +1,4 @@
-use Rattle.std.proofs.Common.{◌≡◌, ◌≤◌, length, take}
-use Rattle.heap_model.specs.Database.{data_in}
-use Rattle.canonical_file.specs.Canonical.{most_bytes}
-use Rattle.file_parts.specs.Listed.{database_listed}
-use Rattle.file_parts.specs.Exact.{exact_block, exact_start}
-use Rattle.file_parts.specs.ExactListed.{exact_packed}
-use Rattle.file_parts.proofs.ExactPlaces.{ArePlaced}
+use Rattle.file_parts.proofs.AllLaws.{◌≡◌, ◌≤◌, length, take, data_in, most_bytes, database_listed, exact_block, exact_start, exact_packed, ArePlaced}
 use Rattle.file_parts.proofs.exact_packing.place_ranks.Given as goal
 
 -- the ranks so far have their offsets, and the next block begins at `at`

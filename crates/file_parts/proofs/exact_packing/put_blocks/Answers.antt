@@ -1,16 +1,4 @@
-use Rattle.std.proofs.Common.{◌≡◌, ◌+◌, ◌<◌, ◌≤◌, List, ℕ, Option, true, false, length, get_or, drop, refl, sym, ap, subst, ◌∙◌, arith}
-use Rattle.std.proofs.lemmas.List.{drop_all}
-use Rattle.heap_model.specs.Database.{data_in}
-use Rattle.heap_model.specs.Files.{block_bytes}
-use Rattle.palm_text.specs.Counted.{Writes}
-use Rattle.palm_text.proofs.Parts.{then, stops, nothing}
-use Rattle.file_parts.specs.Listed.{database_listed}
-use Rattle.file_parts.specs.Exact.{ExactFile, exact_block}
-use Rattle.file_parts.specs.ExactListed.{exact_packed}
-use Rattle.file_parts.proofs.ExactInside.{rank_inside}
-use Rattle.file_parts.proofs.ExactPacked.{blocks_whole}
-use Rattle.file_parts.proofs.ExactPlaces.{blocks_of}
-use Rattle.file_parts.proofs.ExactRanks.{rest_from}
+use Rattle.file_parts.proofs.AllLaws.{◌≡◌, ◌+◌, ◌<◌, ◌≤◌, List, ℕ, Option, true, false, length, get_or, drop, refl, sym, ap, subst, ◌∙◌, arith, drop_all, data_in, block_bytes, Writes, then, stops, nothing, database_listed, ExactFile, exact_block, exact_packed, rank_inside, blocks_whole, blocks_of, rest_from}
 use Rattle.file_parts.proofs.exact_packing.put_blocks.Goals as goal
 
 pub loop-rank-init : goal.loop-rank-init

@@ -1,8 +1,4 @@
-use Rattle.std.proofs.Common.{Bool, drop}
-use Rattle.palm_text.specs.Counted.{Writing, Writes}
-use Rattle.file_parts.specs.Exact.{exact_block, exact_blocks}
-use Rattle.file_parts.specs.ExactListed.{exact_packed}
-use Rattle.file_parts.proofs.ExactPlaces.{blocks_of}
+use Rattle.file_parts.proofs.AllLaws.{Bool, drop, Writing, Writes, exact_block, exact_blocks, exact_packed, blocks_of}
 use Rattle.file_parts.proofs.exact_packing.put_blocks.Given as goal
 
 -- whatever is written from here on completes the blocks

@@ -1,7 +1,4 @@
-use Rattle.std.proofs.Common.{◌<◌, ℕ, List, length, get_or, refl, sym, subst, ◌∙◌}
-use Rattle.heap_model.specs.Database.{data_in}
-use Rattle.file_parts.specs.Listed.{database_listed}
-use Rattle.file_parts.proofs.ExactInside.{rank_inside}
+use Rattle.file_parts.proofs.AllLaws.{◌<◌, ℕ, List, length, get_or, refl, sym, subst, ◌∙◌, data_in, database_listed, rank_inside}
 use Rattle.file_parts.proofs.exact_packing.rank_at.Goals as goal
 
 pub returns-clause-there : goal.returns-clause-there

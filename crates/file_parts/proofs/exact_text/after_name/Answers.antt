@@ -1,7 +1,5 @@
-use Rattle.std.proofs.Common.{◌-◌, List, ℕ, length, drop, take, ap, ◌∙◌, arith}
+use Rattle.file_parts.proofs.AllWords.{◌-◌, List, ℕ, length, drop, take, ap, ◌∙◌, arith, name_in, not_truncated}
 use Rattle.std.proofs.lemmas.Slice.{between_is}
-use Rattle.heap_model.specs.Database.{name_in}
-use Rattle.pdb_format.proofs.GoodFiles.{not_truncated}
 use Rattle.file_parts.proofs.exact_text.after_name.Goals as goal
 
 pub returns-clause-is : goal.returns-clause-is

@@ -1,5 +1,4 @@
-use Rattle.std.proofs.Common.{ℕ, suc, List, inl, inr, sym, ◌∙◌, arith}
-use Rattle.std.proofs.lemmas.Bool.{cases_lt}
+use Rattle.file_parts.proofs.AllWords.{ℕ, suc, List, inl, inr, sym, ◌∙◌, arith, cases_lt}
 use Rattle.file_parts.proofs.ExactRising.{lower_breaks, not_lower, rising_all}
 use Rattle.file_parts.proofs.exact_text.is_list_order.Goals as goal
 

@@ -1,12 +1,4 @@
-use Rattle.std.proofs.Common.{◌≡◌, ◌++◌, List, ℕ, true, refl, sym, ap, subst, ◌∙◌}
-use Rattle.std.specs.Prelude.{codes, is_ok}
-use Rattle.std.proofs.lemmas.Bool.{false≢true}
-use Rattle.hex.specs.Hex.{encode_lower}
-use Rattle.palm_text.specs.Counted.{Writes}
-use Rattle.palm_text.proofs.Parts.{nothing}
-use Rattle.file_parts.specs.ExactUnpacking.{after_name_text}
-use Rattle.file_parts.proofs.ExactHeads.{no_line, some_line}
-use Rattle.file_parts.proofs.ExactRead.{name_front}
+use Rattle.file_parts.proofs.AllLaws.{◌≡◌, ◌++◌, List, ℕ, true, refl, sym, ap, subst, ◌∙◌, codes, is_ok, false≢true, encode_lower, Writes, nothing, after_name_text, no_line, some_line, name_front}
 use Rattle.file_parts.proofs.exact_text.put_after_name.Goals as goal
 
 pub returns-then-has_name : goal.returns-then-has_name

@@ -1,7 +1,4 @@
-use Rattle.std.specs.Prelude.{is_ok}
-use Rattle.palm_text.proofs.Parts.{then, stops}
-use Rattle.file_parts.specs.Texts.{body_lines, entry_lines, info_lines, with_names}
-use Rattle.file_parts.specs.Exact.{exact_database}
+use Rattle.file_parts.proofs.AllWords.{is_ok, then, stops, body_lines, entry_lines, info_lines, with_names, exact_database}
 use Rattle.file_parts.proofs.exact_text.put_body.Goals as goal
 
 pub returns-in-Ok : goal.returns-in-Ok

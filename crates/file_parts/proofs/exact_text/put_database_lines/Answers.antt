@@ -1,11 +1,4 @@
-use Rattle.std.proofs.Common.{◌++◌, List, ℕ, false, subst}
-use Rattle.std.specs.Prelude.{is_ok}
-use Rattle.heap_model.specs.Database.{DatabaseHeader}
-use Rattle.db_format.specs.Headers.{header_values}
-use Rattle.palm_text.specs.Counted.{Writes}
-use Rattle.palm_text.proofs.Parts.{then, stops}
-use Rattle.file_parts.specs.Texts.{body_lines, database_text, header_lines, with_names}
-use Rattle.file_parts.specs.Exact.{exact_database}
+use Rattle.file_parts.proofs.AllWords.{◌++◌, List, ℕ, false, subst, is_ok, DatabaseHeader, header_values, Writes, then, stops, body_lines, database_text, header_lines, with_names, exact_database}
 use Rattle.file_parts.proofs.exact_text.put_database_lines.Goals as goal
 
 pub returns-in-Ok : goal.returns-in-Ok

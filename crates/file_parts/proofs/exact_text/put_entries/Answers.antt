@@ -1,9 +1,4 @@
-use Rattle.std.proofs.Common.{◌+◌, ◌<◌, ◌≤◌, List, ℕ, true, false, sym, subst, arith}
-use Rattle.heap_model.specs.Database.{entry_count_in}
-use Rattle.palm_text.specs.Counted.{Writes}
-use Rattle.palm_text.proofs.Parts.{then, stops, nothing}
-use Rattle.file_parts.specs.ExactUnpacking.{exact_entry_line}
-use Rattle.file_parts.proofs.ExactEntries.{rest_lines, all_lines, line_here, none_left}
+use Rattle.file_parts.proofs.AllLaws.{◌+◌, ◌<◌, ◌≤◌, List, ℕ, true, false, sym, subst, arith, entry_count_in, Writes, then, stops, nothing, exact_entry_line, rest_lines, all_lines, line_here, none_left}
 use Rattle.file_parts.proofs.exact_text.put_entries.Goals as goal
 
 pub loop-index-preserved : goal.loop-index-preserved

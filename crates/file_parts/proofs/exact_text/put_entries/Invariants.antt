@@ -1,6 +1,4 @@
-use Rattle.std.proofs.Common.{Bool}
-use Rattle.palm_text.specs.Counted.{Writing, Writes}
-use Rattle.file_parts.proofs.ExactEntries.{rest_lines}
+use Rattle.file_parts.proofs.AllLaws.{Bool, Writing, Writes, rest_lines}
 use Rattle.file_parts.proofs.exact_text.put_entries.Given as goal
 
 -- whatever is written from here on completes the lines

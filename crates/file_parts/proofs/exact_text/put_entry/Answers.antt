@@ -1,14 +1,4 @@
-use Rattle.std.proofs.Common.{List, ℕ, Option, false, sym, ap, ◌∙◌, subst}
-use Rattle.std.specs.Prelude.{is_ok}
-use Rattle.heap_model.specs.Database.{Entry, entry_data, entry_in, entry_with}
-use Rattle.palm_text.specs.Counted.{Writes}
-use Rattle.palm_text.proofs.Parts.{then, stops}
-use Rattle.db_format.specs.EitherEntry.{entry_of}
-use Rattle.pdb_format.specs.Blocks.{bytes_at}
-use Rattle.file_parts.specs.Texts.{entry_name, entry_values, name_if_data, part_text}
-use Rattle.file_parts.specs.Exact.{exact_entry}
-use Rattle.file_parts.proofs.EntryLines.{line_joined}
-use Rattle.file_parts.proofs.ExactHeads.{with_twice, data_with}
+use Rattle.file_parts.proofs.AllLaws.{List, ℕ, Option, false, sym, ap, ◌∙◌, subst, is_ok, Entry, entry_data, entry_in, entry_with, Writes, then, stops, entry_of, bytes_at, entry_name, entry_values, name_if_data, part_text, exact_entry, line_joined, with_twice, data_with}
 use Rattle.file_parts.proofs.exact_text.put_entry.Goals as goal
 
 pub returns-in-Err : goal.returns-in-Err

@@ -1,8 +1,4 @@
-use Rattle.std.specs.Prelude.{is_ok}
-use Rattle.palm_text.proofs.Parts.{then, stops}
-use Rattle.file_parts.specs.Texts.{database_text}
-use Rattle.file_parts.specs.ExactTexts.{ExactText, exact_lines, exact_text, text_of_exact}
-use Rattle.file_parts.specs.ExactUnpacking.{exact_of}
+use Rattle.file_parts.proofs.AllWords.{is_ok, then, stops, database_text, ExactText, exact_lines, exact_text, text_of_exact, exact_of}
 use Rattle.file_parts.proofs.exact_text.put_exact.Goals as goal
 
 pub returns-in-Ok : goal.returns-in-Ok

@@ -1,8 +1,4 @@
-use Rattle.std.proofs.Common.{◌≡◌, List, ℕ, false, length, sym, ap, subst, ◌∙◌}
-use Rattle.std.specs.Prelude.{◌==◌, is_ok}
-use Rattle.palm_text.specs.Counted.{Writes}
-use Rattle.pdb_format.specs.Filler.{filler_in}
-use Rattle.file_parts.proofs.ExactHeads.{filler_some}
+use Rattle.file_parts.proofs.AllLaws.{◌≡◌, List, ℕ, false, length, sym, ap, subst, ◌∙◌, ◌==◌, is_ok, Writes, filler_in, filler_some}
 use Rattle.file_parts.proofs.exact_text.put_filler.Goals as goal
 
 pub returns-else-is_empty : goal.returns-else-is_empty

@@ -1,8 +1,4 @@
-use Rattle.std.proofs.Common.{◌++◌, List, ℕ}
-use Rattle.std.specs.Prelude.{codes, is_ok}
-use Rattle.palm_text.proofs.Parts.{then, stops}
-use Rattle.file_parts.specs.ExactTexts.{exact_lines}
-use Rattle.file_parts.specs.ExactUnpacking.{after_name_text, filler_text, order_text}
+use Rattle.file_parts.proofs.AllWords.{◌++◌, List, ℕ, codes, is_ok, then, stops, exact_lines, after_name_text, filler_text, order_text}
 use Rattle.file_parts.proofs.exact_text.put_lines.Goals as goal
 
 pub returns-in-Ok : goal.returns-in-Ok

@@ -1,7 +1,4 @@
-use Rattle.std.proofs.Common.{◌++◌}
-use Rattle.std.specs.Prelude.{is_ok}
-use Rattle.palm_text.proofs.Parts.{then, stops}
-use Rattle.file_parts.specs.ExactUnpacking.{after_name_text, filler_text, order_text}
+use Rattle.file_parts.proofs.AllWords.{◌++◌, is_ok, then, stops, after_name_text, filler_text, order_text}
 use Rattle.file_parts.proofs.exact_text.put_more.Goals as goal
 
 pub returns-in-Ok : goal.returns-in-Ok

@@ -1,9 +1,4 @@
-use Rattle.std.proofs.Common.{◌≡◌, List, ℕ, Bool, [], cond, true, sym, ap, subst, ◌∙◌}
-use Rattle.std.specs.Prelude.{is_ok}
-use Rattle.palm_text.specs.Counted.{Writes}
-use Rattle.palm_text.proofs.Parts.{nothing}
-use Rattle.file_parts.specs.ExactTexts.{order_lines}
-use Rattle.file_parts.specs.ExactUnpacking.{order_text}
+use Rattle.file_parts.proofs.AllWords.{◌≡◌, List, ℕ, Bool, [], cond, true, sym, ap, subst, ◌∙◌, is_ok, Writes, nothing, order_lines, order_text}
 use Rattle.file_parts.proofs.exact_text.put_order.Goals as goal
 
 pub returns-then-is_list_order : goal.returns-then-is_list_order

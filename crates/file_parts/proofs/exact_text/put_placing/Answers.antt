@@ -1,8 +1,4 @@
-use Rattle.std.proofs.Common.{◌++◌, List, ℕ, subst}
-use Rattle.std.specs.Prelude.{is_ok}
-use Rattle.palm_text.specs.Counted.{Writes}
-use Rattle.palm_text.proofs.Parts.{then, stops}
-use Rattle.file_parts.specs.ExactUnpacking.{filler_text, order_text}
+use Rattle.file_parts.proofs.AllWords.{◌++◌, List, ℕ, subst, is_ok, Writes, then, stops, filler_text, order_text}
 use Rattle.file_parts.proofs.exact_text.put_placing.Goals as goal
 
 pub returns-in-Ok : goal.returns-in-Ok

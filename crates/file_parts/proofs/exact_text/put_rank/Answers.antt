@@ -1,6 +1,4 @@
-use Rattle.std.proofs.Common.{◌++◌, List, ℕ, subst}
-use Rattle.std.specs.Prelude.{codes, is_ok}
-use Rattle.palm_text.specs.Counted.{Writes}
+use Rattle.file_parts.proofs.AllWords.{◌++◌, List, ℕ, subst, codes, is_ok, Writes}
 use Rattle.file_parts.proofs.exact_text.put_rank.Goals as goal
 
 pub returns : goal.returns

@@ -1,9 +1,4 @@
-use Rattle.std.proofs.Common.{◌≡◌, ◌+◌, ◌<◌, ◌≤◌, ◌++◌, List, ℕ, [], true, false, length, get_or, drop, sym, ap, subst, arith}
-use Rattle.std.proofs.lemmas.List.{drop_all}
-use Rattle.palm_text.specs.Counted.{Writes}
-use Rattle.palm_text.proofs.Parts.{then, stops, nothing}
-use Rattle.file_parts.specs.ExactTexts.{order_line, order_lines}
-use Rattle.file_parts.proofs.ExactRanks.{rest_from}
+use Rattle.file_parts.proofs.AllLaws.{◌≡◌, ◌+◌, ◌<◌, ◌≤◌, ◌++◌, List, ℕ, [], true, false, length, get_or, drop, sym, ap, subst, arith, drop_all, Writes, then, stops, nothing, order_line, order_lines, rest_from}
 use Rattle.file_parts.proofs.exact_text.put_ranks.Goals as goal
 
 -- the line of an index, and those after it

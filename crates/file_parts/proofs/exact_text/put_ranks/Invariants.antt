@@ -1,6 +1,4 @@
-use Rattle.std.proofs.Common.{Bool, drop}
-use Rattle.palm_text.specs.Counted.{Writing, Writes}
-use Rattle.file_parts.specs.ExactTexts.{order_lines}
+use Rattle.file_parts.proofs.AllWords.{Bool, drop, Writing, Writes, order_lines}
 use Rattle.file_parts.proofs.exact_text.put_ranks.Given as goal
 
 -- whatever is written from here on completes the lines

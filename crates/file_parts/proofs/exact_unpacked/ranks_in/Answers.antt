@@ -1,10 +1,4 @@
-use Rattle.std.proofs.Common.{◌≤◌, List, length, map, ap, ◌∙◌, arith, rules}
-use Rattle.std.proofs.lemmas.List.{take_all}
-use Rattle.std.proofs.lemmas.List.Sorted.{IsNonDecreasingBy-from_sort_by_key}
-use Rattle.heap_model.specs.Files.{offsets_in}
-use Rattle.file_parts.specs.ExactUnpacking.{block_order}
-use Rattle.file_parts.specs.declared.exact_unpacked.BlockStart.{BlockStart}
-use Rattle.file_parts.proofs.ExactStarts.{order_is}
+use Rattle.file_parts.proofs.AllLaws.{◌≤◌, List, length, map, ap, ◌∙◌, arith, rules, take_all, IsNonDecreasingBy-from_sort_by_key, offsets_in, block_order, BlockStart, order_is}
 use Rattle.file_parts.proofs.exact_unpacked.ranks_in.Goals as goal
 
 pub returns-clause-order : goal.returns-clause-order

@@ -1,8 +1,4 @@
-use Rattle.std.proofs.Common.{◌≡◌, ℕ, ◌+◌, ◌<◌, ◌++◌, [], ◌∷◌, List, length, ap, ◌∙◌, rules}
-use Rattle.std.specs.Prelude.{slice_index}
-use Rattle.heap_model.specs.Files.{offsets_in}
-use Rattle.file_parts.specs.declared.exact_unpacked.BlockStart.{BlockStart}
-use Rattle.file_parts.proofs.ExactStarts.{first_starts, one_more, none_more}
+use Rattle.file_parts.proofs.AllLaws.{◌≡◌, ℕ, ◌+◌, ◌<◌, ◌++◌, [], ◌∷◌, List, length, ap, ◌∙◌, rules, slice_index, offsets_in, BlockStart, first_starts, one_more, none_more}
 use Rattle.file_parts.proofs.exact_unpacked.starts_in.Goals as goal
 use Rattle.file_parts.proofs.exact_unpacked.starts_in.Goals.{then-at-ne0+in_ok-push, else-at-ne0}
 

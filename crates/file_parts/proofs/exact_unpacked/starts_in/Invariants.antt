@@ -1,6 +1,4 @@
-use Rattle.std.proofs.Common.{◌≡◌}
-use Rattle.heap_model.specs.Files.{offsets_in}
-use Rattle.file_parts.proofs.ExactStarts.{first_starts}
+use Rattle.file_parts.proofs.AllLaws.{◌≡◌, offsets_in, first_starts}
 use Rattle.file_parts.proofs.exact_unpacked.starts_in.Given as goal
 
 -- the starts of the first ranks are collected

@@ -1,8 +1,4 @@
-use Rattle.std.proofs.Common.{◌≤◌, List, ℕ, length, sym, subst}
-use Rattle.canonical_file.specs.Canonical.{most_bytes}
-use Rattle.file_parts.specs.Exact.{exact_in}
-use Rattle.file_parts.proofs.ExactFolders.{packs_exactly}
-use Rattle.file_parts.proofs.ExactRead.{is_exactly}
+use Rattle.file_parts.proofs.AllLaws.{◌≤◌, List, ℕ, length, sym, subst, most_bytes, exact_in, packs_exactly, is_exactly}
 use Rattle.file_parts.proofs.exact_unpacked.unpack_exact.Goals as goal
 
 pub returns-in-Ok-ranks_in-clause-done : goal.returns-in-Ok-ranks_in-clause-done

@@ -1,6 +1,4 @@
-use Rattle.std.proofs.Common.{◌<◌, ℕ, length, sym, ◌∙◌, arith}
-use Rattle.heap_model.specs.Database.{Database}
-use Rattle.file_parts.specs.Exact.{ExactFile, exact_placed}
+use Rattle.file_parts.proofs.AllWords.{◌<◌, ℕ, length, sym, ◌∙◌, arith, Database, ExactFile, exact_placed}
 use Rattle.file_parts.proofs.ExactWritten.{placed_count}
 use Rattle.file_parts.proofs.exact_writing.header_at.Goals as goal
 

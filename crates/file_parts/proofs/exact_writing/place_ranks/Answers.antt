@@ -1,9 +1,5 @@
-use Rattle.std.proofs.Common.{◌≡◌, ◌+◌, ◌<◌, ◌≤◌, ℕ, List, length, ap, subst, ◌∙◌, arith}
-use Rattle.std.proofs.lemmas.List.{length-replicate, take_all}
-use Rattle.heap_model.specs.Database.{data_in}
-use Rattle.file_parts.specs.Exact.{ExactFile, exact_block, exact_size, exact_start}
-use Rattle.file_parts.proofs.ExactPlaces.{ArePlaced, placed_next, placed_none, size_before}
-use Rattle.file_parts.proofs.ExactWritten.{blocks_whole, offsets_are, place_fault, size_placed}
+use Rattle.file_parts.proofs.AllLaws.{◌≡◌, ◌+◌, ◌<◌, ◌≤◌, ℕ, List, length, ap, subst, ◌∙◌, arith, length-replicate, take_all, data_in, ExactFile, exact_block, exact_size, exact_start, ArePlaced, placed_next, placed_none, size_before, place_fault, size_placed}
+use Rattle.file_parts.proofs.ExactWritten.{blocks_whole, offsets_are}
 use Rattle.file_parts.proofs.exact_writing.place_ranks.Goals as goal
 
 pub loop-index-init : goal.loop-index-init

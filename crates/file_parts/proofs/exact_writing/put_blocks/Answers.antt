@@ -1,10 +1,5 @@
-use Rattle.std.proofs.Common.{◌≡◌, ◌+◌, ◌<◌, ◌≤◌, List, ℕ, true, false, length, get_or, drop, sym, ap, subst, ◌∙◌, arith}
-use Rattle.heap_model.specs.Files.{block_bytes}
-use Rattle.palm_text.specs.Counted.{Writes}
-use Rattle.palm_text.proofs.Parts.{then, stops, nothing}
-use Rattle.file_parts.specs.Exact.{ExactFile, exact_block}
-use Rattle.file_parts.proofs.ExactPlaces.{blocks_of}
-use Rattle.file_parts.proofs.ExactWritten.{blocks_from, blocks_none, blocks_whole}
+use Rattle.file_parts.proofs.AllLaws.{◌≡◌, ◌+◌, ◌<◌, ◌≤◌, List, ℕ, true, false, length, get_or, drop, sym, ap, subst, ◌∙◌, arith, block_bytes, Writes, then, stops, nothing, ExactFile, exact_block, blocks_of, blocks_from, blocks_none}
+use Rattle.file_parts.proofs.ExactWritten.{blocks_whole}
 use Rattle.file_parts.proofs.exact_writing.put_blocks.Goals as goal
 
 pub loop-index-init : goal.loop-index-init

@@ -1,12 +1,4 @@
-use Rattle.std.proofs.Common.{◌≡◌, ◌+◌, ◌<◌, ◌≤◌, List, ℕ, true, false, drop, length, get_or, Option, sym, subst, ◌∙◌, arith}
-use Rattle.std.proofs.lemmas.List.{length-map}
-use Rattle.std.specs.List.{flat_map}
-use Rattle.heap_model.specs.Database.{Entry, entry_bytes, entry_data}
-use Rattle.db_format.specs.EitherEntry.{entry_of}
-use Rattle.palm_text.specs.Counted.{Writes}
-use Rattle.palm_text.proofs.Parts.{then, stops, nothing}
-use Rattle.file_parts.specs.Exact.{ExactFile, exact_placed}
-use Rattle.file_parts.proofs.ExactWritten.{entries_from, entries_none}
+use Rattle.file_parts.proofs.AllLaws.{◌≡◌, ◌+◌, ◌<◌, ◌≤◌, List, ℕ, true, false, drop, length, get_or, Option, sym, subst, ◌∙◌, arith, length-map, flat_map, Entry, entry_bytes, entry_data, entry_of, Writes, then, stops, nothing, ExactFile, exact_placed, entries_from, entries_none}
 use Rattle.file_parts.proofs.exact_writing.put_entries.Goals as goal
 
 pub bounds-offsets-index : goal.bounds-offsets-index

@@ -1,8 +1,4 @@
-use Rattle.std.proofs.Common.{Bool, drop}
-use Rattle.std.specs.List.{flat_map}
-use Rattle.heap_model.specs.Database.{entry_bytes}
-use Rattle.palm_text.specs.Counted.{Writing, Writes}
-use Rattle.file_parts.specs.Exact.{exact_placed}
+use Rattle.file_parts.proofs.AllWords.{Bool, drop, flat_map, entry_bytes, Writing, Writes, exact_placed}
 use Rattle.file_parts.proofs.exact_writing.put_entries.Given as goal
 
 -- whatever is written from here on completes the entries

@@ -1,9 +1,4 @@
-use Rattle.std.proofs.Common.{◌≡◌, ℕ, List, true, false, drop, take, sym, ap, subst, ◌∙◌, rules}
-use Rattle.std.specs.Prelude.{is_ok}
-use Rattle.palm_text.specs.Counted.{Writes}
-use Rattle.file_parts.specs.Exact.{exact_bytes, exact_placed}
-use Rattle.file_parts.proofs.ExactPacked.{fields_taken}
-use Rattle.file_parts.proofs.ExactWritten.{all_written, stops_name, stops_fields, stops_entries}
+use Rattle.file_parts.proofs.AllLaws.{◌≡◌, ℕ, List, true, false, drop, take, sym, ap, subst, ◌∙◌, rules, is_ok, Writes, exact_bytes, exact_placed, fields_taken, all_written, stops_name, stops_fields, stops_entries}
 use Rattle.file_parts.proofs.exact_writing.put_exact.Goals as goal
 
 pub returns : goal.returns

@@ -1,5 +1,4 @@
-use Rattle.std.proofs.Common.{◌<◌, ℕ, List, length, get_or, sym, subst}
-use Rattle.heap_model.specs.Database.{data_in}
+use Rattle.file_parts.proofs.AllWords.{◌<◌, ℕ, List, length, get_or, sym, subst, data_in}
 use Rattle.file_parts.proofs.ExactWritten.{rank_inside}
 use Rattle.file_parts.proofs.exact_writing.rank_at.Goals as goal
 

@@ -1,9 +1,4 @@
-use Rattle.std.proofs.Common.{List, ℕ, ◌≤◌, length, arith}
-use Rattle.pdb_format.specs.Opened.{most_file_bytes}
-use Rattle.canonical_file.specs.Canonical.{most_bytes}
-use Rattle.canonical_file.proofs.Given.{known_of}
-use Rattle.file_parts.proofs.ExactRead.{is_exactly}
-use Rattle.file_parts.proofs.KeptSources.{keep_why, kept_from, kept_size}
+use Rattle.file_parts.proofs.AllLaws.{List, ℕ, ◌≤◌, length, arith, most_file_bytes, most_bytes, known_of, is_exactly, keep_why, kept_from, kept_size}
 use Rattle.file_parts.proofs.kept.keep_parts.Goals as goal
 
 within : (file : List ℕ) → length file ≤ most_bytes → length file ≤ most_file_bytes

@@ -1,10 +1,5 @@
-use Rattle.std.proofs.Common.{List, ℕ}
-use Rattle.heap_model.specs.Files.{blocks_in}
-use Rattle.pdb_format.specs.Filler.{filler_in, written_filler}
-use Rattle.file_parts.specs.ExactUnpacking.{exact_of}
-use Rattle.file_parts.proofs.ExactRead.{is_exactly}
+use Rattle.file_parts.proofs.AllLaws.{List, ℕ, blocks_in, filler_in, written_filler, exact_of, is_exactly, filler_either, keeping_is, keeping_ordered, ranks_are, whole_permuted}
 use Rattle.file_parts.proofs.KeptSound.{IsWholeOrder, own_order}
-use Rattle.file_parts.proofs.KeptSources.{filler_either, keeping_is, keeping_ordered, ranks_are, whole_permuted}
 use Rattle.file_parts.proofs.kept.keeping_of.Goals as goal
 
 pub returns-clause-good : goal.returns-clause-good

@@ -1,5 +1,4 @@
-use Rattle.std.proofs.Common.{ℕ}
-use Rattle.std.proofs.lemmas.List.Sorted.{IsNonDecreasingBy-from_sort}
+use Rattle.file_parts.proofs.AllWords.{ℕ, IsNonDecreasingBy-from_sort}
 use Rattle.file_parts.proofs.kept.ranks_for.Goals as goal
 
 pub returns-clause-sorted : goal.returns-clause-sorted

@@ -1,5 +1,4 @@
-use Rattle.db_format.specs.Headers.{header_values}
-use Rattle.file_parts.specs.Listed.{entries_listed}
+use Rattle.file_parts.proofs.AllWords.{header_values, entries_listed}
 use Rattle.file_parts.proofs.ReadTexts.{entries_faulty, listed_read}
 use Rattle.file_parts.proofs.listed.read_database.Goals as goal
 

@@ -1,11 +1,4 @@
-use Rattle.std.proofs.Common.{◌≡◌, ◌+◌, ◌<◌, ◌≤◌, ◌++◌, ℕ, List, Option, length, take, sym, ap, ◌∙◌, arith, append-nil, append_assoc}
-use Rattle.std.proofs.lemmas.List.{take_all}
-use Rattle.heap_model.specs.Database.{data_in}
-use Rattle.heap_model.specs.Files.{block_bytes}
-use Rattle.file_parts.specs.Listed.{database_listed}
-use Rattle.file_parts.specs.Packing.{filled, part_at}
-use Rattle.file_parts.proofs.PackedFiles.{blocks_on, block_here, blocks_end}
-use Rattle.file_parts.proofs.PackedStarts.{length-take_most, take_front}
+use Rattle.file_parts.proofs.AllLaws.{◌≡◌, ◌+◌, ◌<◌, ◌≤◌, ◌++◌, ℕ, List, Option, length, take, sym, ap, ◌∙◌, arith, append-nil, append_assoc, take_all, data_in, block_bytes, database_listed, filled, part_at, blocks_on, block_here, blocks_end, length-take_most, take_front}
 use Rattle.file_parts.proofs.packed_start.append_blocks_within.Goals as goal
 
 pub loop-rank-preserved : goal.loop-rank-preserved

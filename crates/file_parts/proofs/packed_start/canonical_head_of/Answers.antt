@@ -1,9 +1,4 @@
-use Rattle.std.proofs.Common.{◌++◌, ℕ, List, subst}
-use Rattle.heap_model.specs.Files.{blocks_in}
-use Rattle.pdb_format.proofs.WrittenOffsets.{all_bytes}
-use Rattle.canonical_file.specs.Canonical.{IsCanonical}
-use Rattle.file_parts.proofs.PackedEntries.{packed_good}
-use Rattle.file_parts.proofs.PackedStarts.{form_is}
+use Rattle.file_parts.proofs.AllLaws.{◌++◌, ℕ, List, subst, blocks_in, all_bytes, IsCanonical, packed_good, form_is}
 use Rattle.file_parts.proofs.packed_start.canonical_head_of.Goals as goal
 
 pub of_bytes-requires : goal.of_bytes-requires

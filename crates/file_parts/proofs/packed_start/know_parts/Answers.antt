@@ -1,6 +1,4 @@
-use Rattle.std.proofs.Common.{ℕ, List, get_or, sym, subst, ◌∙◌, arith, below_more}
-use Rattle.std.proofs.lemmas.List.{get_or_default}
-use Rattle.heap_model.specs.Bytes.{AreBytes}
+use Rattle.file_parts.proofs.AllWords.{ℕ, List, get_or, sym, subst, ◌∙◌, arith, below_more, get_or_default, AreBytes}
 use Rattle.file_parts.proofs.packed_start.know_parts.Goals as goal
 
 pub loop-part-preserved : goal.loop-part-preserved

@@ -1,5 +1,4 @@
-use Rattle.std.proofs.Common.{◌<◌, ℕ, List, get_or}
-use Rattle.heap_model.specs.Bytes.{AreBytes}
+use Rattle.file_parts.proofs.AllWords.{◌<◌, ℕ, List, get_or, AreBytes}
 use Rattle.file_parts.proofs.packed_start.know_parts.Given as goal
 
 -- the numbers in the parts so far are bytes

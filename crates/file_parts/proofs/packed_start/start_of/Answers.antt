@@ -1,8 +1,4 @@
-use Rattle.std.proofs.Common.{◌+◌, ◌≤◌, ℕ, List, length, ap, subst, arith}
-use Rattle.heap_model.specs.Bytes.{AreBytes, u32_at}
-use Rattle.heap_model.specs.DatabaseFields.{app_info_at}
-use Rattle.pdb_format.specs.FileStarts.{most_app}
-use Rattle.file_parts.proofs.PackedStarts.{head_least, head_most, starts}
+use Rattle.file_parts.proofs.AllLaws.{◌+◌, ◌≤◌, ℕ, List, length, ap, subst, arith, AreBytes, u32_at, app_info_at, most_app, head_least, head_most, starts}
 use Rattle.file_parts.proofs.packed_start.start_of.Goals as goal
 
 pub start_size-most-requires : goal.start_size-most-requires

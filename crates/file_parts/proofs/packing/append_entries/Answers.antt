@@ -1,12 +1,5 @@
-use Rattle.std.proofs.Common.{◌+◌, ◌<◌, ◌≤◌, ◌++◌, ℕ, List, Option, length, drop, sym, ap, ◌∙◌, arith, append-nil, append_assoc}
-use Rattle.heap_model.specs.Database.{Entry, entry_bytes, entry_with}
-use Rattle.heap_model.specs.Files.{block_bytes, block_offset, idle_entry}
-use Rattle.file_parts.specs.declared.entries.ListedEntry.{ListedEntry}
-use Rattle.file_parts.specs.Listed.{entry_listed}
-use Rattle.pdb_format.specs.FileTexts.{data_text, entries_text}
-use Rattle.file_parts.specs.Packing.{filled, packed_entries, part_at}
-use Rattle.file_parts.proofs.PackedEntries.{text_here, data_here, none_left}
-use Rattle.file_parts.proofs.PackedFiles.{refused_more}
+use Rattle.file_parts.proofs.AllLaws.{◌+◌, ◌<◌, ◌≤◌, ◌++◌, ℕ, List, Option, length, drop, sym, ap, ◌∙◌, arith, append-nil, append_assoc, Entry, entry_bytes, entry_with, block_bytes, block_offset, idle_entry, ListedEntry, entry_listed, data_text, entries_text, filled, packed_entries, part_at, text_here, data_here, refused_more}
+use Rattle.file_parts.proofs.PackedEntries.{none_left}
 use Rattle.file_parts.proofs.packing.append_entries.Goals as goal
 
 pub loop-index-preserved : goal.loop-index-preserved

@@ -1,7 +1,4 @@
-use Rattle.std.proofs.Common.{◌≡◌, ◌+◌, ◌≤◌, ◌++◌, length, drop}
-use Rattle.pdb_format.specs.FileTexts.{data_text, entries_text}
-use Rattle.canonical_file.specs.Canonical.{most_bytes}
-use Rattle.file_parts.specs.Packing.{packed_entries}
+use Rattle.file_parts.proofs.AllWords.{◌≡◌, ◌+◌, ◌≤◌, ◌++◌, length, drop, data_text, entries_text, most_bytes, packed_entries}
 use Rattle.file_parts.proofs.packing.append_entries.Given as goal
 
 -- The entries that are left make the text whole, and their data ends with all of the data.

@@ -1,9 +1,4 @@
-use Rattle.std.proofs.Common.{◌++◌, ◌∷◌, [], ℕ, List, sym, ap, ◌∙◌}
-use Rattle.pdb_format.specs.FileTexts.{blocks_text, entries_text, header_text}
-use Rattle.pdb_format.proofs.FileParts.{file_parts}
-use Rattle.file_parts.specs.declared.entries.ListedEntry.{ListedEntry}
-use Rattle.file_parts.specs.Packing.{database_of_parts, packed_entries}
-use Rattle.file_parts.proofs.PackedEntries.{joined}
+use Rattle.file_parts.proofs.AllLaws.{◌++◌, ◌∷◌, [], ℕ, List, sym, ap, ◌∙◌, blocks_text, entries_text, header_text, file_parts, ListedEntry, database_of_parts, packed_entries, joined}
 use Rattle.file_parts.proofs.packing.file_head.Goals as goal
 
 pub returns-clause-file : goal.returns-clause-file

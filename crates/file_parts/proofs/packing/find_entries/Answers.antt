@@ -1,8 +1,4 @@
-use Rattle.std.proofs.Common.{◌≡◌, ◌+◌, ℕ, List, length, ap, arith}
-use Rattle.heap_model.specs.Files.{block_size}
-use Rattle.pdb_format.specs.Writable.{file_size}
-use Rattle.file_parts.specs.Packing.{database_of_parts}
-use Rattle.file_parts.proofs.PackedFiles.{refused_more, sizes}
+use Rattle.file_parts.proofs.AllLaws.{◌≡◌, ◌+◌, ℕ, List, length, ap, arith, block_size, file_size, database_of_parts, refused_more, sizes}
 use Rattle.file_parts.proofs.packing.find_entries.Goals as goal
 
 pub returns-in-Ok-clause-are : goal.returns-in-Ok-clause-are

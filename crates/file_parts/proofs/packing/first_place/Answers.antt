@@ -1,7 +1,4 @@
-use Rattle.std.proofs.Common.{◌+◌, ℕ, List, Bool, length, sym, ap, ◌∙◌}
-use Rattle.heap_model.specs.Database.{entry_offset, has_resources}
-use Rattle.file_parts.specs.declared.entries.ListedEntry.{ListedEntry}
-use Rattle.file_parts.proofs.PackedEntries.{length-packed}
+use Rattle.file_parts.proofs.AllLaws.{◌+◌, ℕ, List, Bool, length, sym, ap, ◌∙◌, entry_offset, has_resources, ListedEntry, length-packed}
 use Rattle.file_parts.proofs.packing.first_place.Goals as goal
 
 pub returns-clause-is : goal.returns-clause-is

@@ -1,12 +1,4 @@
-use Rattle.std.proofs.Common.{List, ℕ, Option, length, map, ap, ◌∙◌, sym, refl}
-use Rattle.heap_model.specs.Database.{Database}
-use Rattle.heap_model.specs.Files.{idle, idle_entry, with_offsets, first_block, block_offset}
-use Rattle.std.proofs.lemmas.List.{length-map}
-use Rattle.pdb_format.proofs.FileParts.{length-with_offsets}
-use Rattle.pdb_format.specs.FileTexts.{data_at}
-use Rattle.file_parts.specs.declared.entries.ListedEntry.{ListedEntry}
-use Rattle.file_parts.specs.Packing.{database_of_parts, part_at}
-use Rattle.file_parts.proofs.PackedEntries.{length-packed}
+use Rattle.file_parts.proofs.AllLaws.{List, ℕ, Option, length, map, ap, ◌∙◌, sym, refl, Database, idle, idle_entry, with_offsets, first_block, block_offset, length-map, length-with_offsets, data_at, ListedEntry, database_of_parts, part_at, length-packed}
 use Rattle.file_parts.proofs.packing.header_bytes.Goals as goal
 
 pub returns : goal.returns

@@ -1,8 +1,4 @@
-use Rattle.std.proofs.Common.{◌++◌, arith, length-append}
-use Rattle.pdb_format.specs.FileTexts.{blocks_text}
-use Rattle.file_parts.specs.Packing.{database_of_parts}
-use Rattle.file_parts.proofs.PackedEntries.{packed_has_file}
-use Rattle.file_parts.proofs.PackedStarts.{size_of}
+use Rattle.file_parts.proofs.AllLaws.{◌++◌, arith, length-append, blocks_text, database_of_parts, packed_has_file, size_of}
 use Rattle.file_parts.proofs.UnpackedBack.{unpacks_back}
 use Rattle.file_parts.proofs.packing.pack_head.Goals as goal
 

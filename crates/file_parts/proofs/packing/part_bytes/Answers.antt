@@ -1,7 +1,4 @@
-use Rattle.std.proofs.Common.{[], List, ℕ, sym, ap, ◌∙◌}
-use Rattle.std.proofs.lemmas.List.{get_or_default}
-use Rattle.heap_model.specs.Files.{block_bytes}
-use Rattle.file_parts.specs.Packing.{filled}
+use Rattle.file_parts.proofs.AllWords.{[], List, ℕ, sym, ap, ◌∙◌, get_or_default, block_bytes, filled}
 use Rattle.file_parts.proofs.packing.part_bytes.Goals as goal
 
 pub returns : goal.returns

@@ -1,6 +1,4 @@
-use Rattle.std.proofs.Common.{◌∙◌}
-use Rattle.db_format.specs.EitherEntry.{entry_of}
-use Rattle.file_parts.proofs.PackedEntries.{entry_placed}
+use Rattle.file_parts.proofs.AllLaws.{◌∙◌, entry_of, entry_placed}
 use Rattle.file_parts.proofs.packing.placed.Goals as goal
 
 pub returns-clause-is : goal.returns-clause-is

@@ -1,11 +1,4 @@
-use Rattle.std.proofs.Common.{◌+◌, ◌<◌, ◌≤◌, List, ℕ, Option, true, false, length, sym, ap, subst, ◌∙◌, arith}
-use Rattle.heap_model.specs.Database.{data_in}
-use Rattle.heap_model.specs.Files.{block_bytes}
-use Rattle.palm_text.specs.Counted.{Writes}
-use Rattle.palm_text.proofs.Parts.{then, stops, nothing}
-use Rattle.file_parts.specs.Listed.{database_listed}
-use Rattle.file_parts.specs.Packing.{filled, part_at}
-use Rattle.file_parts.proofs.PackedFiles.{blocks_on, block_here, blocks_end}
+use Rattle.file_parts.proofs.AllLaws.{◌+◌, ◌<◌, ◌≤◌, List, ℕ, Option, true, false, length, sym, ap, subst, ◌∙◌, arith, data_in, block_bytes, Writes, then, stops, nothing, database_listed, filled, part_at, blocks_on, block_here, blocks_end}
 use Rattle.file_parts.proofs.packing.put_blocks.Goals as goal
 
 pub loop-rank-init : goal.loop-rank-init

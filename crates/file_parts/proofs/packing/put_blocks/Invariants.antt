@@ -1,6 +1,4 @@
-use Rattle.std.proofs.Common.{Bool}
-use Rattle.palm_text.specs.Counted.{Writing, Writes}
-use Rattle.file_parts.proofs.PackedFiles.{blocks_on}
+use Rattle.file_parts.proofs.AllLaws.{Bool, Writing, Writes, blocks_on}
 use Rattle.file_parts.proofs.packing.put_blocks.Given as goal
 
 -- whatever is written from here on completes the blocks

@@ -1,7 +1,4 @@
-use Rattle.std.proofs.Common.{ℕ, List, ◌≡◌, length, false, ap, sym, ◌∙◌, below_more, arith}
-use Rattle.file_parts.specs.Exact.{is_misplaced}
-use Rattle.file_parts.specs.Replacing.{exact_replacing}
-use Rattle.file_parts.proofs.ReplacedSound.{in_order}
+use Rattle.file_parts.proofs.AllLaws.{ℕ, List, ◌≡◌, length, false, ap, sym, ◌∙◌, below_more, arith, is_misplaced, exact_replacing, in_order}
 use Rattle.file_parts.proofs.replaced.is_in_order.Goals as goal
 
 pub loop-index-preserved : goal.loop-index-preserved

@@ -1,5 +1,4 @@
-use Rattle.std.proofs.Common.{arith}
-use Rattle.pdb_format.proofs.FileBlocks.{block_count}
+use Rattle.file_parts.proofs.AllWords.{arith, block_count}
 use Rattle.file_parts.proofs.replaced.old_block.Goals as goal
 
 pub block-requires : goal.block-requires

@@ -1,7 +1,4 @@
-use Rattle.std.proofs.Common.{refl}
-use Rattle.file_parts.specs.ExactUnpacking.{exact_of}
-use Rattle.file_parts.proofs.ReplacedFiles.{exactly_in}
-use Rattle.file_parts.proofs.ReplacedSound.{part_empty, place_why}
+use Rattle.file_parts.proofs.AllLaws.{refl, exact_of, exactly_in, part_empty, place_why}
 use Rattle.file_parts.proofs.replaced.ready.Goals as goal
 
 pub returns-then-not-is_in_order-clause-why : goal.returns-then-not-is_in_order-clause-why

@@ -1,9 +1,4 @@
-use Rattle.std.proofs.Common.{List, ℕ, ◌++◌, None, get_or}
-use Rattle.std.specs.Prelude.{codes, is_ok}
-use Rattle.heap_model.specs.Files.{blocks_in}
-use Rattle.pdb_format.specs.ReadFiles.{entries_read}
-use Rattle.palm_text.proofs.Parts.{then, stops}
-use Rattle.file_parts.specs.Texts.{app_name, sort_name, info_line, name_if_data, named_entries, entry_lines}
+use Rattle.file_parts.proofs.AllWords.{List, ℕ, ◌++◌, None, get_or, codes, is_ok, blocks_in, entries_read, then, stops, app_name, sort_name, info_line, name_if_data, named_entries, entry_lines}
 use Rattle.file_parts.proofs.text.put_body.Goals as goal
 
 pub returns-in-Ok : goal.returns-in-Ok

@@ -1,11 +1,4 @@
-use Rattle.std.proofs.Common.{List, ℕ, Option, subst}
-use Rattle.std.specs.Prelude.{is_ok}
-use Rattle.heap_model.specs.Database.{Database}
-use Rattle.palm_text.specs.Counted.{Writes}
-use Rattle.pdb_format.proofs.ReadFiles.{reads}
-use Rattle.pdb_format.proofs.ReadOnce.{read_once}
-use Rattle.file_parts.specs.Texts.{database_text, with_names}
-use Rattle.file_parts.specs.Unpacking.{database_of}
+use Rattle.file_parts.proofs.AllWords.{List, ℕ, Option, subst, is_ok, Database, Writes, reads, read_once, database_text, with_names, database_of}
 use Rattle.file_parts.proofs.text.put_database.Goals as goal
 
 pub returns : goal.returns

@@ -1,8 +1,4 @@
-use Rattle.std.proofs.Common.{◌+◌, ◌<◌, ◌≤◌, List, ℕ, true, false, sym, subst, arith}
-use Rattle.heap_model.specs.Database.{entry_count_in}
-use Rattle.palm_text.specs.Counted.{Writes}
-use Rattle.palm_text.proofs.Parts.{then, stops, nothing}
-use Rattle.file_parts.specs.Unpacking.{line_at}
+use Rattle.file_parts.proofs.AllWords.{◌+◌, ◌<◌, ◌≤◌, List, ℕ, true, false, sym, subst, arith, entry_count_in, Writes, then, stops, nothing, line_at}
 use Rattle.file_parts.proofs.EntryLines.{rest_lines, line_here, none_left}
 use Rattle.file_parts.proofs.text.put_entries.Goals as goal
 

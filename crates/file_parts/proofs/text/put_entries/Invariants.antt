@@ -1,5 +1,4 @@
-use Rattle.std.proofs.Common.{Bool}
-use Rattle.palm_text.specs.Counted.{Writing, Writes}
+use Rattle.file_parts.proofs.AllWords.{Bool, Writing, Writes}
 use Rattle.file_parts.proofs.EntryLines.{rest_lines}
 use Rattle.file_parts.proofs.text.put_entries.Given as goal
 

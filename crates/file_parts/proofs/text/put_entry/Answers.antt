@@ -1,15 +1,4 @@
-use Rattle.std.proofs.Common.{◌+◌, List, ℕ, Option, None, false, get_or, sym, ◌∙◌, subst}
-use Rattle.std.specs.Prelude.{is_ok}
-use Rattle.heap_model.specs.Database.{Entry, entry_data, entry_in, entry_with}
-use Rattle.heap_model.specs.Files.{blocks_in}
-use Rattle.palm_text.specs.Counted.{Writes}
-use Rattle.palm_text.proofs.Parts.{then, stops}
-use Rattle.db_format.specs.EitherEntry.{entry_of}
-use Rattle.pdb_format.specs.Blocks.{bytes_at}
-use Rattle.pdb_format.specs.ReadFiles.{entry_read_at}
-use Rattle.pdb_format.proofs.ReadFiles.{data_read}
-use Rattle.file_parts.specs.Texts.{entry_name, entry_values, name_if_data, part_text}
-use Rattle.file_parts.proofs.EntryLines.{any_part, line_joined}
+use Rattle.file_parts.proofs.AllLaws.{◌+◌, List, ℕ, Option, None, false, get_or, sym, ◌∙◌, subst, is_ok, Entry, entry_data, entry_in, entry_with, blocks_in, Writes, then, stops, entry_of, bytes_at, entry_read_at, data_read, entry_name, entry_values, name_if_data, part_text, any_part, line_joined}
 use Rattle.file_parts.proofs.text.put_entry.Goals as goal
 
 pub returns-in-Err : goal.returns-in-Err

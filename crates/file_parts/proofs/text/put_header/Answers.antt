@@ -1,8 +1,4 @@
-use Rattle.std.proofs.Common.{◌≡◌, List, ℕ, refl, subst}
-use Rattle.std.specs.Prelude.{is_ok}
-use Rattle.palm_text.specs.Counted.{Writes}
-use Rattle.db_format.specs.Headers.{header_values}
-use Rattle.file_parts.specs.Texts.{header_lines}
+use Rattle.file_parts.proofs.AllWords.{◌≡◌, List, ℕ, refl, subst, is_ok, Writes, header_values, header_lines}
 use Rattle.file_parts.proofs.text.put_header.Goals as goal
 
 pub returns : goal.returns

@@ -1,8 +1,4 @@
-use Rattle.std.proofs.Common.{None, get_or}
-use Rattle.std.specs.Prelude.{codes, is_ok}
-use Rattle.heap_model.specs.Files.{blocks_in}
-use Rattle.palm_text.proofs.Parts.{then, stops}
-use Rattle.file_parts.specs.Texts.{app_name, sort_name, info_line, name_if_data}
+use Rattle.file_parts.proofs.AllWords.{None, get_or, codes, is_ok, blocks_in, then, stops, app_name, sort_name, info_line, name_if_data}
 use Rattle.file_parts.proofs.text.put_infos.Goals as goal
 
 pub returns-in-Ok : goal.returns-in-Ok

@@ -1,7 +1,4 @@
-use Rattle.std.proofs.Common.{List, ℕ, subst}
-use Rattle.std.specs.Prelude.{is_ok}
-use Rattle.palm_text.specs.Counted.{Writes}
-use Rattle.file_parts.proofs.EntryLines.{part_joined}
+use Rattle.file_parts.proofs.AllLaws.{List, ℕ, subst, is_ok, Writes, part_joined}
 use Rattle.file_parts.proofs.text.put_part.Goals as goal
 
 pub returns-in-Some : goal.returns-in-Some

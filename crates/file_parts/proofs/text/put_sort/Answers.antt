@@ -1,7 +1,4 @@
-use Rattle.std.proofs.Common.{List, ℕ, Option, ap, subst}
-use Rattle.std.specs.Prelude.{codes, is_ok}
-use Rattle.palm_text.specs.Counted.{Writes}
-use Rattle.file_parts.specs.Texts.{sort_name, info_line, name_if_data}
+use Rattle.file_parts.proofs.AllWords.{List, ℕ, Option, ap, subst, codes, is_ok, Writes, sort_name, info_line, name_if_data}
 use Rattle.file_parts.proofs.text.put_sort.Goals as goal
 
 pub returns : goal.returns

@@ -1,9 +1,4 @@
-use Rattle.std.proofs.Common.{List, ℕ, false, subst, rules}
-use Rattle.std.specs.Prelude.{is_ok}
-use Rattle.db_format.specs.Headers.{header_values}
-use Rattle.palm_text.specs.Counted.{Writes}
-use Rattle.palm_text.proofs.Parts.{then, stops}
-use Rattle.file_parts.specs.Texts.{header_lines}
+use Rattle.file_parts.proofs.AllWords.{List, ℕ, false, subst, rules, is_ok, header_values, Writes, then, stops, header_lines}
 use Rattle.file_parts.proofs.Wholes.{rest_of, text_is}
 use Rattle.file_parts.proofs.text.put_text.Goals as goal
 

@@ -1,6 +1,4 @@
-use Rattle.std.proofs.Common.{arith, sym, ap, ◌∙◌}
-use Rattle.pdb_format.specs.Blocks.{bytes_at}
-use Rattle.pdb_format.proofs.FileBlocks.{block_count}
+use Rattle.file_parts.proofs.AllWords.{arith, sym, ap, ◌∙◌, bytes_at, block_count}
 use Rattle.file_parts.proofs.unpacked.part_of.Goals as goal
 
 pub block-requires : goal.block-requires

@@ -1,8 +1,4 @@
-use Rattle.std.proofs.Common.{ap, sym, ◌∙◌}
-use Rattle.std.specs.Prelude.{Ok}
-use Rattle.file_parts.specs.Listed.{database_listed}
-use Rattle.file_parts.specs.ExactListed.{exact_listed}
-use Rattle.file_parts.specs.ExactReading.{ExactHead, exact_with}
+use Rattle.file_parts.proofs.AllWords.{ap, sym, ◌∙◌, Ok, database_listed, exact_listed, ExactHead, exact_with}
 use Rattle.file_parts.proofs.ValueLaws.{no_file, text_is}
 use Rattle.file_parts.proofs.values.list_exact.Goals as goal
 

@@ -1,6 +1,4 @@
-use Rattle.std.proofs.Common.{◌≡◌, true, take}
-use Rattle.std.specs.List.{list_all}
-use Rattle.file_parts.specs.Words.{is_name_byte}
+use Rattle.file_parts.proofs.AllWords.{◌≡◌, true, take, list_all, is_name_byte}
 use Rattle.file_parts.proofs.words.are_name_bytes.Given as goal
 
 abbrev pub invariant-loop-byte : goal.invariant-loop-byte

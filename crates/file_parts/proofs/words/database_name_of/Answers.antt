@@ -1,6 +1,4 @@
-use Rattle.std.proofs.Common.{ap, ◌∙◌}
-use Rattle.std.specs.Option.{option_and_then}
-use Rattle.file_parts.specs.Words.{name_if}
+use Rattle.file_parts.proofs.AllWords.{ap, ◌∙◌, option_and_then, name_if}
 use Rattle.file_parts.proofs.Names.{name_tried}
 use Rattle.file_parts.proofs.words.database_name_of.Goals as goal
 

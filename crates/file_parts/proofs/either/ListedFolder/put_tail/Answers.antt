@@ -1,8 +1,4 @@
-use Rattle.std.proofs.Common.{sym, subst}
-use Rattle.std.specs.Prelude.{is_ok}
-use Rattle.palm_text.specs.Counted.{Writes}
-use Rattle.file_parts.specs.Either.{folder_tail}
-use Rattle.file_parts.specs.declared.either.ListedFolder.{ListedFolder}
+use Rattle.file_parts.proofs.AllWords.{sym, subst, is_ok, Writes, folder_tail, ListedFolder}
 use Rattle.file_parts.proofs.either.ListedFolder.put_tail.Goals as goal
 
 pub returns-in-Exact : goal.returns-in-Exact

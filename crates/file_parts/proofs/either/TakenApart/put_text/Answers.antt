@@ -1,7 +1,4 @@
-use Rattle.std.proofs.Common.{ℕ, List, sym, subst}
-use Rattle.std.specs.Prelude.{is_ok}
-use Rattle.palm_text.specs.Counted.{Writes}
-use Rattle.file_parts.specs.Either.{IsTextOf}
+use Rattle.file_parts.proofs.AllWords.{ℕ, List, sym, subst, is_ok, Writes, IsTextOf}
 use Rattle.file_parts.specs.declared.either.TakenApart.{TakenApart}
 use Rattle.file_parts.proofs.either.TakenApart.put_text.Goals as goal
 

@@ -1,9 +1,6 @@
-use Rattle.pdb_format.specs.ReadFiles.{database_read}
-use Rattle.canonical_file.proofs.Given.{known_of}
-use Rattle.file_parts.specs.Keeping.{AreChangesLeft}
+use Rattle.file_parts.proofs.AllWords.{database_read, known_of, AreChangesLeft, sym, subst}
 use Rattle.file_parts.proofs.KeptChanges.{are_left}
 use Rattle.file_parts.proofs.keep.Keep.changes_by.Goals as goal
-use Rattle.std.proofs.Common.{sym, subst}
 
 pub returns : goal.returns
 returns g c =

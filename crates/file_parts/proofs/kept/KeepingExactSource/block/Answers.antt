@@ -1,5 +1,4 @@
-use Rattle.std.proofs.Common.{ap, sym, ◌∙◌, arith}
-use Rattle.heap_model.specs.Files.{block_bytes}
+use Rattle.file_parts.proofs.AllWords.{ap, sym, ◌∙◌, arith, block_bytes}
 use Rattle.file_parts.proofs.KeptSources.{block_is, count_is}
 use Rattle.file_parts.proofs.kept.KeepingExactSource.block.Goals as goal
 

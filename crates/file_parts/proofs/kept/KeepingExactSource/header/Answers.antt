@@ -1,8 +1,4 @@
-use Rattle.std.proofs.Common.{ap, sym, subst, ◌∙◌}
-use Rattle.heap_model.specs.Database.{IsDatabaseName}
-use Rattle.pdb_format.specs.ReadFiles.{header_read}
-use Rattle.pdb_format.proofs.FileNames.{file_named}
-use Rattle.file_parts.proofs.KeptSources.{entry_count, header_is, name_is}
+use Rattle.file_parts.proofs.AllLaws.{ap, sym, subst, ◌∙◌, IsDatabaseName, header_read, file_named, entry_count, header_is, name_is}
 use Rattle.file_parts.proofs.kept.KeepingExactSource.header.Goals as goal
 
 pub returns-clause-values : goal.returns-clause-values

@@ -1,6 +1,4 @@
-use Rattle.std.proofs.Common.{ap, ◌∙◌}
-use Rattle.heap_model.specs.Database.{DatabaseHeader, name_field}
-use Rattle.file_parts.proofs.KeptSources.{field_is, header_name}
+use Rattle.file_parts.proofs.AllLaws.{ap, ◌∙◌, DatabaseHeader, name_field, field_is, header_name}
 use Rattle.file_parts.proofs.kept.KeepingExactSource.name_field.Goals as goal
 
 pub returns : goal.returns

@@ -1,6 +1,4 @@
-use Rattle.std.proofs.Common.{◌≡◌, ◌+◌, ◌<◌, ◌^◌, length}
-use Rattle.std.specs.Str.Lines.{lines}
-use Rattle.file_parts.specs.Reading.{next_of}
+use Rattle.file_parts.proofs.AllWords.{◌≡◌, ◌+◌, ◌<◌, ◌^◌, length, lines, next_of}
 use Rattle.file_parts.proofs.lines.Lines.next.Given as goal
 
 -- the lines before these are passed over

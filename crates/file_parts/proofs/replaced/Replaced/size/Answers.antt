@@ -1,7 +1,4 @@
-use Rattle.std.proofs.Common.{◌≤◌, ◌∙◌, arith}
-use Rattle.canonical_file.specs.Canonical.{most_bytes}
-use Rattle.file_parts.specs.Exact.{exact_size}
-use Rattle.file_parts.specs.Replacing.{exact_replacing}
+use Rattle.file_parts.proofs.AllWords.{◌≤◌, ◌∙◌, arith, most_bytes, exact_size, exact_replacing}
 use Rattle.file_parts.proofs.ReplacedSound.{size_is}
 use Rattle.file_parts.proofs.replaced.Replaced.size.Goals as goal
 

@@ -1,5 +1,4 @@
-use Rattle.std.proofs.Common.{◌<◌, length, rules, arith}
-use Rattle.heap_model.specs.Files.{blocks_in}
+use Rattle.file_parts.proofs.AllWords.{◌<◌, length, rules, arith, blocks_in}
 use Rattle.file_parts.proofs.ReplacedFiles.{block_new, block_old, count_is}
 use Rattle.file_parts.proofs.replaced.ReplacingExactSource.block.Goals as goal
 

@@ -1,5 +1,4 @@
-use Rattle.std.proofs.Common.{◌+◌, List, ℕ, length, sym, ap, ◌∙◌}
-use Rattle.heap_model.specs.Files.{entries_end}
+use Rattle.file_parts.proofs.AllWords.{◌+◌, List, ℕ, length, sym, ap, ◌∙◌, entries_end}
 use Rattle.file_parts.proofs.ReplacedFiles.{start_is}
 use Rattle.file_parts.proofs.replaced.ReplacingExactSource.first_offset.Goals as goal
 

@@ -1,7 +1,4 @@
-use Rattle.std.proofs.Common.{sym, ◌∙◌}
-use Rattle.laws_store.proofs.Shapes.{length-entries_in}
-use Rattle.heap_model.specs.Database.{database_in}
-use Rattle.file_parts.specs.Exact.{exact_database}
+use Rattle.file_parts.proofs.AllWords.{sym, ◌∙◌, length-entries_in, database_in, exact_database}
 use Rattle.file_parts.proofs.ExactFits.{file_name}
 use Rattle.file_parts.proofs.ReplacedFiles.{entry_count}
 use Rattle.file_parts.proofs.replaced.ReplacingExactSource.header.Goals as goal

@@ -1,6 +1,4 @@
-use Rattle.std.proofs.Common.{◌≤◌, List, ℕ, length, sym, ap, subst, ◌∙◌, take, arith}
-use Rattle.pdb_format.proofs.GoodFiles.{not_truncated}
-use Rattle.file_parts.proofs.ReplacedFiles.{exactly_in}
+use Rattle.file_parts.proofs.AllLaws.{◌≤◌, List, ℕ, length, sym, ap, subst, ◌∙◌, take, arith, not_truncated, exactly_in}
 use Rattle.file_parts.proofs.replaced.ReplacingExactSource.name_field.Goals as goal
 
 pub copied_name-requires : goal.copied_name-requires
