@@ -218,23 +218,20 @@ keeping_ordered keeping order =
 
 -- ---- a file that is laid out
 
-pub kept_from : (keep : Keep) (keeping : Keeping) (places : Places) (file order given : List ℕ) (last : ℕ) → Known file (database_read file given last) → IsExactly file (exact_in file order) → exact_keeping keeping ≡ kept_exact keep (exact_in file order) (database_read file given last)
-    → AreExactPlaces (exact_keeping keeping) places → KeepsParts keep file (exact_bytes (exact_keeping keeping))
-kept_from keep keeping places file order given last known is same are =
-    let size = are.size in
-    let fits_in = are.fits in
-    let small : exact_size (exact_keeping keeping) ≤ most_bytes = omega (arith, size, fits_in) in
-    subst (λ (x : ExactFile). KeepsParts keep file (exact_bytes x)) (sym same)
-    (keeps keep file (exact_in file order) (database_read file given last) known is (subst (λ (x : ExactFile). exact_size x ≤ most_bytes) same small))
+module _ (keep : Keep) (keeping : Keeping) (places : Places) (file order given : List ℕ) (last : ℕ) (known : Known file (database_read file given last)) (is : IsExactly file (exact_in file order)) (same : exact_keeping keeping ≡ kept_exact keep (exact_in file order) (database_read file given last)) (are : AreExactPlaces (exact_keeping keeping) places) where
+  small : exact_size (exact_keeping keeping) ≤ most_bytes
+  small =
+      let size = are.size in
+      let fits_in = are.fits in
+      omega (arith, size, fits_in)
 
-pub kept_size : (keep : Keep) (keeping : Keeping) (places : Places) (file order given : List ℕ) (last : ℕ) → Known file (database_read file given last) → IsExactly file (exact_in file order) → exact_keeping keeping ≡ kept_exact keep (exact_in file order) (database_read file given last)
-    → AreExactPlaces (exact_keeping keeping) places → places.size ≡ length (exact_bytes (exact_keeping keeping))
-kept_size keep keeping places file order given last known is same are =
-    let size = are.size in
-    let fits_in = are.fits in
-    let small : exact_size (exact_keeping keeping) ≤ most_bytes = omega (arith, size, fits_in) in
-    size ∙ subst (λ (x : ExactFile). exact_size x ≡ length (exact_bytes x)) (sym same)
-    (kept_long keep file (exact_in file order) (database_read file given last) known is (subst (λ (x : ExactFile). exact_size x ≤ most_bytes) same small))
+  pub kept_from : KeepsParts keep file (exact_bytes (exact_keeping keeping))
+  kept_from =
+      rw same (keeps keep file (exact_in file order) (database_read file given last) known is (rw same at small))
+
+  pub kept_size : places.size ≡ length (exact_bytes (exact_keeping keeping))
+  kept_size =
+      are.size ∙ rw same (kept_long keep file (exact_in file order) (database_read file given last) known is (rw same at small))
 
 pub keep_why : (keep : Keep) (keeping : Keeping) (file order given : List ℕ) (last : ℕ) (fault : PlaceFault) → Known file (database_read file given last) → IsExactly file (exact_in file order) → exact_keeping keeping ≡ kept_exact keep (exact_in file order) (database_read file given last)
     → IsPlaceFault (exact_size (exact_keeping keeping)) fault → IsKeepFault keep file fault

@@ -132,26 +132,27 @@ listed_writable r (e ∷ items) all =
     All-cons (IsWritableEntry r) (entry_listed e) (entries_listed items) (All-head (IsGoodEntry r) e items all) (listed_writable r items (All-tail (IsGoodEntry r) e items all))
 
 -- a packed database has a file
-pub packed_has_file : (listed : Listed) (parts : List (List ℕ)) → IsListed listed → file_size (database_of_parts listed parts) ≤ most_bytes → HasFile (database_of_parts listed parts)
-packed_has_file listed parts is size =
-    let long = length-packed listed.entries.items parts in
-    let few = is.few in
-    record {
-      name = is.name;
-      header = is.header;
-      entries = all_writable (has_resources listed.header.attributes) parts 2 (entries_listed listed.entries.items) (listed_writable (has_resources listed.header.attributes) listed.entries.items is.good);
-      entry_count = omega arith;
-      size = omega arith;
-    }
+module _ (listed : Listed) (parts : List (List ℕ)) (is : IsListed listed) (size : file_size (database_of_parts listed parts) ≤ most_bytes) where
+  pub packed_has_file : HasFile (database_of_parts listed parts)
+  packed_has_file =
+      let long = length-packed listed.entries.items parts in
+      let few = is.few in
+      record {
+        name = is.name;
+        header = is.header;
+        entries = all_writable (has_resources listed.header.attributes) parts 2 (entries_listed listed.entries.items) (listed_writable (has_resources listed.header.attributes) listed.entries.items is.good);
+        entry_count = omega arith;
+        size = omega arith;
+      }
 
--- it has no fault
-pub packed_good : (listed : Listed) (parts : List (List ℕ)) → IsListed listed → file_size (database_of_parts listed parts) ≤ most_bytes → HasNoFault (file_of (database_of_parts listed parts))
-packed_good listed parts is size = file_good (database_of_parts listed parts) (packed_has_file listed parts is size)
+  -- it has no fault
+  pub packed_good : HasNoFault (file_of (database_of_parts listed parts))
+  packed_good = file_good (database_of_parts listed parts) packed_has_file
 
-pub packed_long : (listed : Listed) (parts : List (List ℕ)) → IsListed listed → file_size (database_of_parts listed parts) ≤ most_bytes → length (file_of (database_of_parts listed parts)) ≤ most_bytes
-packed_long listed parts is size =
-    let same = length-of_file (database_of_parts listed parts) (packed_has_file listed parts is size) in
-    omega arith
+  pub packed_long : length (file_of (database_of_parts listed parts)) ≤ most_bytes
+  packed_long =
+      let same = length-of_file (database_of_parts listed parts) packed_has_file in
+      omega arith
 
 -- parts one after the other
 pub joined : (b0 b1 b2 b3 h e z k : List ℕ) → b0 ≡ [] → b1 ≡ b0 ++ h → b2 ≡ b1 ++ e → b3 ≡ b2 ++ z → b3 ++ k ≡ h ++ (e ++ (z ++ k))

@@ -82,31 +82,35 @@ most_end false n few = omega arith
 most_end true n few = omega arith
 
 -- they have their size
-head_long : (listed : Listed) (parts : List (List ℕ)) (head : List ℕ) → IsListed listed → file_size (database_of_parts listed parts) ≤ most_bytes → file_of (database_of_parts listed parts) ≡ head ++ blocks_text (database_of_parts listed parts)
-    → length head ≡ first_block (database_of_parts listed parts)
-head_long listed parts head is most whole =
-    let d : Database (Option (List ℕ)) = database_of_parts listed parts in
-    let size = length-of_file d (packed_has_file listed parts is most) in
-    let both = ap length whole ∙ length-append head (blocks_text d) in
-    omega (arith, size, both)
+module _ (listed : Listed) (parts : List (List ℕ)) (head : List ℕ) (is : IsListed listed) (most : file_size (database_of_parts listed parts) ≤ most_bytes) (whole : file_of (database_of_parts listed parts) ≡ head ++ blocks_text (database_of_parts listed parts)) where
+  head_long : length head ≡ first_block (database_of_parts listed parts)
+  head_long =
+      let d : Database (Option (List ℕ)) = database_of_parts listed parts in
+      let size = length-of_file d (packed_has_file listed parts is most) in
+      let both = ap length whole ∙ length-append head (blocks_text d) in
+      omega (arith, size, both)
 
-pub head_least : (listed : Listed) (parts : List (List ℕ)) (head : List ℕ) → IsListed listed → file_size (database_of_parts listed parts) ≤ most_bytes → file_of (database_of_parts listed parts) ≡ head ++ blocks_text (database_of_parts listed parts)
-    → 78 ≤ length head
-head_least listed parts head is most whole =
-    let d : Database (Option (List ℕ)) = database_of_parts listed parts in
-    let long = head_long listed parts head is most whole in
-    let least = least_end (has_resources d.header.attributes) (length d.entries) in
-    omega (arith, long, least)
+  pub head_least : 78 ≤ length head
+  head_least =
+      let d : Database (Option (List ℕ)) = database_of_parts listed parts in
+      let long = head_long in
+      let least = least_end (has_resources d.header.attributes) (length d.entries) in
+      omega (arith, long, least)
 
-pub head_most : (listed : Listed) (parts : List (List ℕ)) (head : List ℕ) → IsListed listed → file_size (database_of_parts listed parts) ≤ most_bytes → file_of (database_of_parts listed parts) ≡ head ++ blocks_text (database_of_parts listed parts)
-    → length head ≤ most_start
-head_most listed parts head is most whole =
-    let d : Database (Option (List ℕ)) = database_of_parts listed parts in
-    let long = head_long listed parts head is most whole in
-    let few = is.few in
-    let count = length-packed listed.entries.items parts in
-    let end = most_end (has_resources d.header.attributes) (length d.entries) (omega (arith, few, count)) in
-    omega (arith, long, end)
+  pub head_most : length head ≤ most_start
+  head_most =
+      let d : Database (Option (List ℕ)) = database_of_parts listed parts in
+      let long = head_long in
+      let few = is.few in
+      let count = length-packed listed.entries.items parts in
+      let end = most_end (has_resources d.header.attributes) (length d.entries) (omega (arith, few, count)) in
+      omega (arith, long, end)
+
+  -- how long the file is: its head and its blocks
+  pub size_of : file_size (database_of_parts listed parts) ≡ length head + length (blocks_text (database_of_parts listed parts))
+  size_of =
+      let d : Database (Option (List ℕ)) = database_of_parts listed parts in
+      sym (length-of_file d (packed_has_file listed parts is most)) ∙ ap length whole ∙ length-append head (blocks_text d)
 
 -- ---- the first bytes
 
@@ -172,10 +176,3 @@ pub form_is : (listed : Listed) (parts : List (List ℕ)) (head : List ℕ) → 
 form_is listed parts head is fits canonical =
     subst (λ (blocks : List ℕ). IsCanonical (file_of (database_of_parts listed parts)) (head ++ blocks))
     (same_blocks listed parts (head ++ all_bytes (blocks_in (file_of (database_of_parts listed parts)))) is fits canonical) canonical
-
--- how long the file is: its head and its blocks
-pub size_of : (listed : Listed) (parts : List (List ℕ)) (head : List ℕ) → IsListed listed → file_size (database_of_parts listed parts) ≤ most_bytes → file_of (database_of_parts listed parts) ≡ head ++ blocks_text (database_of_parts listed parts)
-    → file_size (database_of_parts listed parts) ≡ length head + length (blocks_text (database_of_parts listed parts))
-size_of listed parts head is most whole =
-    let d : Database (Option (List ℕ)) = database_of_parts listed parts in
-    sym (length-of_file d (packed_has_file listed parts is most)) ∙ ap length whole ∙ length-append head (blocks_text d)

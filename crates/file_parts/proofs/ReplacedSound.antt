@@ -71,42 +71,43 @@ all r q g some =
 
 -- ---- all of it
 
-pub sound : (r : Replacing) → IsReplacing r → ((index : ℕ) → is_misplaced (exact_replacing r) index ≡ false) → exact_size (exact_replacing r) ≤ most_bytes → IsSound (exact_replacing r)
-sound r g placed size =
-    let file : List ℕ = r.unpacked.file in
-    let exact : ExactFile = exact_of r.unpacked in
-    let many = length-replaced r.at r.part.now 2 exact.database.entries in
-    let few = count_small file g.numbers in
-    record {
-      name = file_name file g.good.good;
-      header = file_header file g.numbers;
-      entries = writable (has_resources exact.database.header.attributes) r.at r.part.now 2 exact.database.entries (all_writable file g.good.good g.numbers);
-      few = omega arith;
-      after = after_good exact.database.header.name exact.after_name (after_right file exact.database.header.name exact.after_name (names_are file exact (exactly_in r g)));
-      once = λ q. rank_once r q g;
-      there = λ q some. there r q g some;
-      all = λ q some. all r q g some;
-      placed = placed;
-      size = omega arith;
-    }
+module _ (r : Replacing) (g : IsReplacing r) (placed : (index : ℕ) → is_misplaced (exact_replacing r) index ≡ false) (size : exact_size (exact_replacing r) ≤ most_bytes) where
+  pub sound : IsSound (exact_replacing r)
+  sound =
+      let file : List ℕ = r.unpacked.file in
+      let exact : ExactFile = exact_of r.unpacked in
+      let many = length-replaced r.at r.part.now 2 exact.database.entries in
+      let few = count_small file g.numbers in
+      record {
+        name = file_name file g.good.good;
+        header = file_header file g.numbers;
+        entries = writable (has_resources exact.database.header.attributes) r.at r.part.now 2 exact.database.entries (all_writable file g.good.good g.numbers);
+        few = omega arith;
+        after = after_good exact.database.header.name exact.after_name (after_right file exact.database.header.name exact.after_name (names_are file exact (exactly_in r g)));
+        once = λ q. rank_once r q g;
+        there = λ q some. there r q g some;
+        all = λ q some. all r q g some;
+        placed = placed;
+        size = omega arith;
+      }
 
-pub size_is : (r : Replacing) → IsReplacing r → ((index : ℕ) → is_misplaced (exact_replacing r) index ≡ false) → exact_size (exact_replacing r) ≤ most_bytes → exact_size (exact_replacing r) ≡ length (exact_bytes (exact_replacing r))
-size_is r g placed size = sym (file_long (exact_replacing r) (sound r g placed size))
+  pub size_is : exact_size (exact_replacing r) ≡ length (exact_bytes (exact_replacing r))
+  size_is = sym (file_long (exact_replacing r) sound)
 
-pub replaces : (r : Replacing) → IsReplacing r → ((index : ℕ) → is_misplaced (exact_replacing r) index ≡ false) → exact_size (exact_replacing r) ≤ most_bytes → Replaces r.unpacked.file r.at r.part.now (exact_bytes (exact_replacing r))
-replaces r g placed size =
-    let long = size_is r g placed size in
-    let exact : ExactFile = exact_of r.unpacked in
-    let exactly = exactly_in r g in
-    record {
-      exact = exact;
-      exactly = exactly;
-      there = g.there;
-      is = refl;
-      fits = omega arith;
-      read = reads_back (exact_replacing r) (sound r g placed size);
-      same = λ is. ap exact_bytes (same_file exact r.at r.part.now (ap (λ (bs : List (Option (List ℕ))). get_or bs r.at None) exactly.blocks ∙ is)) ∙ bytes_are r.unpacked.file exact g.numbers exactly;
-    }
+  pub replaces : Replaces r.unpacked.file r.at r.part.now (exact_bytes (exact_replacing r))
+  replaces =
+      let long = size_is in
+      let exact : ExactFile = exact_of r.unpacked in
+      let exactly = exactly_in r g in
+      record {
+        exact = exact;
+        exactly = exactly;
+        there = g.there;
+        is = refl;
+        fits = omega arith;
+        read = reads_back (exact_replacing r) sound;
+        same = λ is. ap exact_bytes (same_file exact r.at r.part.now (ap (λ (bs : List (Option (List ℕ))). get_or bs r.at None) exactly.blocks ∙ is)) ∙ bytes_are r.unpacked.file exact g.numbers exactly;
+      }
 
 -- ---- blocks that are misplaced
 

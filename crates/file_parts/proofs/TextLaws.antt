@@ -183,6 +183,13 @@ step first value more rest shown is =
     ap lines (append_assoc first (value ++ 10 ∷ more) rest ∙ ap (λ (xs : List ℕ). first ++ xs) (append_assoc value (10 ∷ more) rest))
     ∙ first_line first value (more ++ rest) shown is
 
+-- the same, with the lines after it
+step_on : (first value more rest : List ℕ) (texts : List (List ℕ))
+    → list_all is_shown first ≡ true → IsWord value → lines (more ++ rest) ≡ texts
+    → lines ((first ++ (value ++ 10 ∷ more)) ++ rest) ≡ (first ++ value) ∷ texts
+step_on first value more rest texts shown is after =
+    step first value more rest shown is ∙ ap (λ (xs : List (List ℕ)). (first ++ value) ∷ xs) after
+
 -- the lines of a header, from each field on
 
 abbrev seed_on : DatabaseHeader → List ℕ
@@ -218,81 +225,73 @@ name_on h = codes "name " ++ (script_spelled h.name ++ 10 ∷ attributes_on h)
 abbrev seed_texts : DatabaseHeader → List (List ℕ) → List (List ℕ)
 seed_texts h texts = (codes "seed " ++ encode_lower (u32_bytes h.seed)) ∷ texts
 
-seed_lines : (h : DatabaseHeader) (rest : List ℕ) → HeaderFits h → AreBytes h.name → lines (seed_on h ++ rest) ≡ seed_texts h (lines rest)
-seed_lines h rest fits bytes =
-    step (codes "seed ") (encode_lower (u32_bytes h.seed)) [] rest refl (hex_word_four h.seed)
-
 abbrev creator_texts : DatabaseHeader → List (List ℕ) → List (List ℕ)
 creator_texts h texts = (codes "creator " ++ script_spelled (u32_bytes h.creator)) ∷ seed_texts h texts
-
-creator_lines : (h : DatabaseHeader) (rest : List ℕ) → HeaderFits h → AreBytes h.name → lines (creator_on h ++ rest) ≡ creator_texts h (lines rest)
-creator_lines h rest fits bytes =
-    step (codes "creator ") (script_spelled (u32_bytes h.creator)) (seed_on h) rest refl (text_is_word (u32_bytes h.creator) (u32_are h.creator))
-    ∙ ap (λ (texts : List (List ℕ)). (codes "creator " ++ script_spelled (u32_bytes h.creator)) ∷ texts) (seed_lines h rest fits bytes)
 
 abbrev type_texts : DatabaseHeader → List (List ℕ) → List (List ℕ)
 type_texts h texts = (codes "type " ++ script_spelled (u32_bytes h.kind)) ∷ creator_texts h texts
 
-type_lines : (h : DatabaseHeader) (rest : List ℕ) → HeaderFits h → AreBytes h.name → lines (type_on h ++ rest) ≡ type_texts h (lines rest)
-type_lines h rest fits bytes =
-    step (codes "type ") (script_spelled (u32_bytes h.kind)) (creator_on h) rest refl (text_is_word (u32_bytes h.kind) (u32_are h.kind))
-    ∙ ap (λ (texts : List (List ℕ)). (codes "type " ++ script_spelled (u32_bytes h.kind)) ∷ texts) (creator_lines h rest fits bytes)
-
 abbrev number_texts : DatabaseHeader → List (List ℕ) → List (List ℕ)
 number_texts h texts = (codes "number " ++ decimal h.modification_number) ∷ type_texts h texts
-
-number_lines : (h : DatabaseHeader) (rest : List ℕ) → HeaderFits h → AreBytes h.name → lines (number_on h ++ rest) ≡ number_texts h (lines rest)
-number_lines h rest fits bytes =
-    step (codes "number ") (decimal h.modification_number) (type_on h) rest refl (number_is_word h.modification_number (omega (arith, fits.modification_number)))
-    ∙ ap (λ (texts : List (List ℕ)). (codes "number " ++ decimal h.modification_number) ∷ texts) (type_lines h rest fits bytes)
 
 abbrev backup_texts : DatabaseHeader → List (List ℕ) → List (List ℕ)
 backup_texts h texts = (codes "backup " ++ decimal h.backup_date) ∷ number_texts h texts
 
-backup_lines : (h : DatabaseHeader) (rest : List ℕ) → HeaderFits h → AreBytes h.name → lines (backup_on h ++ rest) ≡ backup_texts h (lines rest)
-backup_lines h rest fits bytes =
-    step (codes "backup ") (decimal h.backup_date) (number_on h) rest refl (number_is_word h.backup_date (omega (arith, fits.backup_date)))
-    ∙ ap (λ (texts : List (List ℕ)). (codes "backup " ++ decimal h.backup_date) ∷ texts) (number_lines h rest fits bytes)
-
 abbrev modified_texts : DatabaseHeader → List (List ℕ) → List (List ℕ)
 modified_texts h texts = (codes "modified " ++ decimal h.modification_date) ∷ backup_texts h texts
-
-modified_lines : (h : DatabaseHeader) (rest : List ℕ) → HeaderFits h → AreBytes h.name → lines (modified_on h ++ rest) ≡ modified_texts h (lines rest)
-modified_lines h rest fits bytes =
-    step (codes "modified ") (decimal h.modification_date) (backup_on h) rest refl (number_is_word h.modification_date (omega (arith, fits.modification_date)))
-    ∙ ap (λ (texts : List (List ℕ)). (codes "modified " ++ decimal h.modification_date) ∷ texts) (backup_lines h rest fits bytes)
 
 abbrev created_texts : DatabaseHeader → List (List ℕ) → List (List ℕ)
 created_texts h texts = (codes "created " ++ decimal h.creation_date) ∷ modified_texts h texts
 
-created_lines : (h : DatabaseHeader) (rest : List ℕ) → HeaderFits h → AreBytes h.name → lines (created_on h ++ rest) ≡ created_texts h (lines rest)
-created_lines h rest fits bytes =
-    step (codes "created ") (decimal h.creation_date) (modified_on h) rest refl (number_is_word h.creation_date (omega (arith, fits.creation_date)))
-    ∙ ap (λ (texts : List (List ℕ)). (codes "created " ++ decimal h.creation_date) ∷ texts) (modified_lines h rest fits bytes)
-
 abbrev version_texts : DatabaseHeader → List (List ℕ) → List (List ℕ)
 version_texts h texts = (codes "version " ++ decimal h.version) ∷ created_texts h texts
-
-version_lines : (h : DatabaseHeader) (rest : List ℕ) → HeaderFits h → AreBytes h.name → lines (version_on h ++ rest) ≡ version_texts h (lines rest)
-version_lines h rest fits bytes =
-    step (codes "version ") (decimal h.version) (created_on h) rest refl (number_is_word h.version (omega (arith, fits.version)))
-    ∙ ap (λ (texts : List (List ℕ)). (codes "version " ++ decimal h.version) ∷ texts) (created_lines h rest fits bytes)
 
 abbrev attributes_texts : DatabaseHeader → List (List ℕ) → List (List ℕ)
 attributes_texts h texts = (codes "attributes " ++ encode_lower (u16_bytes h.attributes)) ∷ version_texts h texts
 
-attributes_lines : (h : DatabaseHeader) (rest : List ℕ) → HeaderFits h → AreBytes h.name → lines (attributes_on h ++ rest) ≡ attributes_texts h (lines rest)
-attributes_lines h rest fits bytes =
-    step (codes "attributes ") (encode_lower (u16_bytes h.attributes)) (version_on h) rest refl (hex_word_two h.attributes)
-    ∙ ap (λ (texts : List (List ℕ)). (codes "attributes " ++ encode_lower (u16_bytes h.attributes)) ∷ texts) (version_lines h rest fits bytes)
-
 abbrev name_texts : DatabaseHeader → List (List ℕ) → List (List ℕ)
 name_texts h texts = (codes "name " ++ script_spelled h.name) ∷ attributes_texts h texts
 
-name_lines : (h : DatabaseHeader) (rest : List ℕ) → HeaderFits h → AreBytes h.name → lines (name_on h ++ rest) ≡ name_texts h (lines rest)
-name_lines h rest fits bytes =
-    step (codes "name ") (script_spelled h.name) (attributes_on h) rest refl (text_is_word h.name bytes)
-    ∙ ap (λ (texts : List (List ℕ)). (codes "name " ++ script_spelled h.name) ∷ texts) (attributes_lines h rest fits bytes)
+module _ (h : DatabaseHeader) (rest : List ℕ) (fits : HeaderFits h) (bytes : AreBytes h.name) where
+  seed_lines : lines (seed_on h ++ rest) ≡ seed_texts h (lines rest)
+  seed_lines =
+      step (codes "seed ") (encode_lower (u32_bytes h.seed)) [] rest refl (hex_word_four h.seed)
+
+  creator_lines : lines (creator_on h ++ rest) ≡ creator_texts h (lines rest)
+  creator_lines =
+      step_on (codes "creator ") (script_spelled (u32_bytes h.creator)) (seed_on h) rest (seed_texts h (lines rest)) refl (text_is_word (u32_bytes h.creator) (u32_are h.creator)) seed_lines
+
+  type_lines : lines (type_on h ++ rest) ≡ type_texts h (lines rest)
+  type_lines =
+      step_on (codes "type ") (script_spelled (u32_bytes h.kind)) (creator_on h) rest (creator_texts h (lines rest)) refl (text_is_word (u32_bytes h.kind) (u32_are h.kind)) creator_lines
+
+  number_lines : lines (number_on h ++ rest) ≡ number_texts h (lines rest)
+  number_lines =
+      step_on (codes "number ") (decimal h.modification_number) (type_on h) rest (type_texts h (lines rest)) refl (number_is_word h.modification_number (omega (arith, fits.modification_number))) type_lines
+
+  backup_lines : lines (backup_on h ++ rest) ≡ backup_texts h (lines rest)
+  backup_lines =
+      step_on (codes "backup ") (decimal h.backup_date) (number_on h) rest (number_texts h (lines rest)) refl (number_is_word h.backup_date (omega (arith, fits.backup_date))) number_lines
+
+  modified_lines : lines (modified_on h ++ rest) ≡ modified_texts h (lines rest)
+  modified_lines =
+      step_on (codes "modified ") (decimal h.modification_date) (backup_on h) rest (backup_texts h (lines rest)) refl (number_is_word h.modification_date (omega (arith, fits.modification_date))) backup_lines
+
+  created_lines : lines (created_on h ++ rest) ≡ created_texts h (lines rest)
+  created_lines =
+      step_on (codes "created ") (decimal h.creation_date) (modified_on h) rest (modified_texts h (lines rest)) refl (number_is_word h.creation_date (omega (arith, fits.creation_date))) modified_lines
+
+  version_lines : lines (version_on h ++ rest) ≡ version_texts h (lines rest)
+  version_lines =
+      step_on (codes "version ") (decimal h.version) (created_on h) rest (created_texts h (lines rest)) refl (number_is_word h.version (omega (arith, fits.version))) created_lines
+
+  attributes_lines : lines (attributes_on h ++ rest) ≡ attributes_texts h (lines rest)
+  attributes_lines =
+      step_on (codes "attributes ") (encode_lower (u16_bytes h.attributes)) (version_on h) rest (version_texts h (lines rest)) refl (hex_word_two h.attributes) version_lines
+
+  name_lines : lines (name_on h ++ rest) ≡ name_texts h (lines rest)
+  name_lines =
+      step_on (codes "name ") (script_spelled h.name) (attributes_on h) rest (attributes_texts h (lines rest)) refl (text_is_word h.name bytes) attributes_lines
 
 header_is : (h : DatabaseHeader) → header_lines h ≡ name_on h
 unfolding header_lines

@@ -76,45 +76,47 @@ kept_writable true (a_resource kind id block ∷ es) (a_resource other_kind othe
 with_entries : Database (Option (List ℕ)) → List (Entry (Option (List ℕ))) → Database (Option (List ℕ))
 with_entries d es = record d { entries = es }
 
-read_idle : (d e : Database (Option (List ℕ))) → IsReadBack d e → idle e ≡ e
-unfolding with_entries
-read_idle d e back = ap (with_entries e) (kept_idle d.entries e.entries back.entries)
+module _ (d e : Database (Option (List ℕ))) (back : IsReadBack d e) where
+  read_idle : idle e ≡ e
+  unfolding with_entries
+  read_idle = ap (with_entries e) (kept_idle d.entries e.entries back.entries)
 
-same_size : (d e : Database (Option (List ℕ))) → IsReadBack d e → file_size e ≡ file_size d
-same_size d e back =
-    let first : first_block e ≡ first_block d =
-    ap (λ (h : DatabaseHeader). entry_offset (has_resources h.attributes) (length e.entries) + 2) back.header
-    ∙ ap (λ (n : ℕ). entry_offset (has_resources d.header.attributes) n + 2) (kept_count d.entries e.entries back.entries) in
-    let long = ap (λ (xs : List (Option (List ℕ))). length (all_bytes xs)) back.blocks in
-    omega arith
+  same_size : file_size e ≡ file_size d
+  same_size =
+      let first : first_block e ≡ first_block d =
+      ap (λ (h : DatabaseHeader). entry_offset (has_resources h.attributes) (length e.entries) + 2) back.header
+      ∙ ap (λ (n : ℕ). entry_offset (has_resources d.header.attributes) n + 2) (kept_count d.entries e.entries back.entries) in
+      let long = ap (λ (xs : List (Option (List ℕ))). length (all_bytes xs)) back.blocks in
+      omega arith
 
 read_fit : (d e : Database (Option (List ℕ))) (back : IsReadBack d e) → HasFile d → All (λ id. (0 < id) × (id ≤ greatest_id)) (unique_ids e) × (back.last_seed ≤ greatest_id)
 read_fit d e back is =
     given_fit (kept_ids [] (unique_ids d)) [] (seed_in d.header.seed) (unique_ids d) (unique_ids e) back.last_seed (omega arith)
     (ids_most (has_resources d.header.attributes) d.entries is.entries) back.ids
 
-read_has_file : (d e : Database (Option (List ℕ))) → IsReadBack d e → HasFile d → HasFile e
-read_has_file d e back is =
-    let fit = read_fit d e back is in
-    let count = kept_count d.entries e.entries back.entries in
-    let few = is.entry_count in
-    let size = is.size in
-    let same = same_size d e back in
-    let kind : has_resources e.header.attributes ≡ has_resources d.header.attributes = ap (λ (h : DatabaseHeader). has_resources h.attributes) back.header in
-    let blocks = (same_head _ _ _ _ (same_head _ _ _ _ back.blocks).1).1 in
-    record {
-      name = subst (λ (h : DatabaseHeader). IsDatabaseName h.name) (sym back.header) is.name;
-      header = subst HeaderFits (sym back.header) (fits_seeded d.header back.last_seed is.header fit.1);
-      entries = subst (λ (r : Bool). All (IsWritableEntry r) e.entries) (sym kind) (kept_writable (has_resources d.header.attributes) d.entries e.entries back.entries is.entries fit.0 blocks);
-      entry_count = omega arith;
-      size = omega arith;
-    }
+module _ (d e : Database (Option (List ℕ))) (back : IsReadBack d e) (is : HasFile d) where
+  read_has_file : HasFile e
+  read_has_file =
+      let fit = read_fit d e back is in
+      let count = kept_count d.entries e.entries back.entries in
+      let few = is.entry_count in
+      let size = is.size in
+      let same = same_size d e back in
+      let kind : has_resources e.header.attributes ≡ has_resources d.header.attributes = ap (λ (h : DatabaseHeader). has_resources h.attributes) back.header in
+      let blocks = (same_head _ _ _ _ (same_head _ _ _ _ back.blocks).1).1 in
+      record {
+        name = subst (λ (h : DatabaseHeader). IsDatabaseName h.name) (sym back.header) is.name;
+        header = subst HeaderFits (sym back.header) (fits_seeded d.header back.last_seed is.header fit.1);
+        entries = subst (λ (r : Bool). All (IsWritableEntry r) e.entries) (sym kind) (kept_writable (has_resources d.header.attributes) d.entries e.entries back.entries is.entries fit.0 blocks);
+        entry_count = omega arith;
+        size = omega arith;
+      }
 
-read_again : (d e : Database (Option (List ℕ))) → IsReadBack d e → HasFile d → Reads (file_of e) e
-read_again d e back is =
-    subst (Reads (file_of e)) (read_idle d e back)
-    (file_reads e (read_has_file d e back is) (none_zero (unique_ids e) (read_fit d e back is).0)
-    (given_distinct (seed_in d.header.seed) (unique_ids d) (unique_ids e) back.last_seed back.ids))
+  read_again : Reads (file_of e) e
+  read_again =
+      subst (Reads (file_of e)) (read_idle d e back)
+      (file_reads e read_has_file (none_zero (unique_ids e) (read_fit d e back is).0)
+      (given_distinct (seed_in d.header.seed) (unique_ids d) (unique_ids e) back.last_seed back.ids))
 
 pub unpacks_back : (d : Database (Option (List ℕ))) (bytes : List ℕ) → HasFile d → IsCanonical (file_of d) bytes → UnpacksBack d bytes
 unpacks_back d bytes is canonical =

@@ -1,3 +1,4 @@
+-- `read_folder` reads the text of a folder, by the laws of FolderTexts.
 use Rattle.file_parts.proofs.AllWords.{◌≡◌, Bool, true, false, ap, ◌∙◌, arith, rules, Ok, read_exact_line}
 use Rattle.file_parts.specs.declared.either.ListedFolder.TheVariants.{Canonical, Exact}
 use Rattle.file_parts.proofs.FolderTexts.{faulty_canonically, faulty_exactly, faulty_first, read_canonically, read_exactly}

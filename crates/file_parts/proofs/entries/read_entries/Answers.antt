@@ -1,3 +1,4 @@
+-- `read_entries` reads the lines of the entries, up to the end of the text.
 use Rattle.file_parts.proofs.AllLaws.{◌∷◌, ◌++◌, [], List, ℕ, Option, length, sym, ap, subst, ◌∙◌, arith, All, Err, Result, length-map, length-append, Entry, ScriptFault, ListedEntry, IsGoodEntry, entry_listed, entries_listed, read_entries, unless_bad, entries_on, entries_end, next_shorter, listed_more, all_more}
 use Rattle.file_parts.proofs.entries.read_entries.Goals as goal
 

@@ -1,3 +1,4 @@
+-- `record_of` returns the record that three words spell, by the laws of GoodWords.
 use Rattle.file_parts.proofs.AllWords.{◌^◌, sym, ◌∙◌, spelled_number, number_in}
 use Rattle.file_parts.proofs.GoodWords.{good_value, below_small, part_missing}
 use Rattle.file_parts.proofs.entries.record_of.Goals as goal

@@ -1,3 +1,4 @@
+-- `read_order` reads the lines `order`, by the laws of ExactLines.
 use Rattle.file_parts.proofs.AllWords.{List, Option, length, sym, ap, ◌∙◌, arith, Ok, read_order, OrderLine}
 use Rattle.file_parts.proofs.ExactLines.{order_more, order_ends, order_faulty, order_shorter}
 use Rattle.file_parts.proofs.exact_lines.read_order.Goals as goal

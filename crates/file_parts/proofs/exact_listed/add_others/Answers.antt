@@ -1,3 +1,4 @@
+-- `add_others` adds the ranks without a mark of the blocks that are there.
 use Rattle.file_parts.proofs.AllLaws.{◌≡◌, ◌++◌, ℕ, List, Option, length, ap, ◌∙◌, rules, data_in, database_listed, free_ranks, free_added, free_left_out}
 use Rattle.file_parts.proofs.exact_listed.add_others.Goals as goal
 use Rattle.file_parts.proofs.exact_listed.add_others.Goals.{then-is_free+in_ok-push, else-is_free}

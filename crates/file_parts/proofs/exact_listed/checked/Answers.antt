@@ -1,3 +1,4 @@
+-- `checked` checks the lines whose faults depend on the lines of the database.
 use Rattle.file_parts.proofs.AllWords.{◌≡◌, List, Some, None, [], map, ap, subst, ◌∙◌, data_in, database_listed, order_of, head_of, order_fault, OrderLine}
 use Rattle.file_parts.proofs.ExactListings.{all_good, bad_after, bad_order}
 use Rattle.file_parts.proofs.exact_listed.checked.Goals as goal

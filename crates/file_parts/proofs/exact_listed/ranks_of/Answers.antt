@@ -1,3 +1,5 @@
+-- `ranks_of` returns the ranks of the blocks that are there, in their order: first those of the
+-- lines `order`, and then the others in list order, by the laws of ExactOrders.
 use Rattle.file_parts.proofs.AllLaws.{◌≡◌, List, ℕ, Option, length, map, sym, subst, arith, rules, data_in, database_listed, AreMarked, ranks_all}
 use Rattle.std.proofs.lemmas.Grind.{common_steps}
 use Rattle.file_parts.proofs.exact_listed.ranks_of.Goals as goal

@@ -1,3 +1,4 @@
+-- `read_after_lines` reads the lines of the database, after those that only an exact folder has.
 use Rattle.file_parts.proofs.AllWords.{ap, ◌∙◌, IfErr-weaker, IfOk-weaker, exact_with, head_of}
 use Rattle.file_parts.proofs.exact_listed.read_after_lines.Goals as goal
 

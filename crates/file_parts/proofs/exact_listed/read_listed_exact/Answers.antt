@@ -1,3 +1,4 @@
+-- `read_listed_exact` reads the text of an exact folder after its first line.
 use Rattle.file_parts.proofs.AllWords.{ap, ◌∙◌, IfErr-weaker, IfOk-weaker, unless_head}
 use Rattle.file_parts.proofs.exact_listed.read_listed_exact.Goals as goal
 

@@ -1,3 +1,4 @@
+-- `append_blocks` appends the blocks in their order.
 use Rattle.file_parts.proofs.AllLaws.{◌≡◌, ◌<◌, ◌≤◌, ◌++◌, ℕ, List, Option, length, get_or, refl, ap, ◌∙◌, arith, take_all, data_in, database_listed, exact_block, exact_packed, rank_inside, blocks_whole, blocks_of}
 use Rattle.file_parts.proofs.exact_packing.append_blocks.Goals as goal
 

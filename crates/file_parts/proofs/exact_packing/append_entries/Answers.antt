@@ -1,3 +1,4 @@
+-- `append_entries` appends the entries with these offsets, by the laws of ExactPacked.
 use Rattle.file_parts.proofs.AllLaws.{◌≡◌, ◌+◌, ◌<◌, ◌≤◌, ◌++◌, ℕ, List, length, get_or, refl, sym, ap, ◌∙◌, arith, append-nil, flat_map, Entry, entry_bytes, entry_with, entry_of, ListedEntry, entries_whole, entry_more}
 use Rattle.file_parts.proofs.exact_packing.append_entries.Goals as goal
 

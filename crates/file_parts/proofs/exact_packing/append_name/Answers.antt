@@ -1,3 +1,4 @@
+-- `append_name` appends the name and the bytes after it, by the laws of ExactPacked.
 use Rattle.file_parts.proofs.AllLaws.{◌≡◌, ◌-◌, ℕ, List, Option, length, drop, take, sym, ap, ◌∙◌, arith, option_map, replicate, drop-replicate, take-replicate, after_name_of, AfterName, appended_twice}
 use Rattle.file_parts.proofs.exact_packing.append_name.Goals as goal
 

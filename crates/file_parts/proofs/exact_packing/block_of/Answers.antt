@@ -1,3 +1,4 @@
+-- `block_of` returns the bytes of the block of a rank, by the laws of ExactPacked.
 use Rattle.file_parts.proofs.AllLaws.{◌<◌, length, ◌∙◌, arith, data_in, database_listed, block_is}
 use Rattle.file_parts.proofs.exact_packing.block_of.Goals as goal
 

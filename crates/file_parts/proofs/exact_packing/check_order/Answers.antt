@@ -1,3 +1,4 @@
+-- `check_order` checks the blocks of the lines `order`, by the contracts of its calls.
 use Rattle.file_parts.proofs.AllWords.{ℕ, ◌≡◌, false, sym, ◌∙◌, below_more, is_misplaced, exact_packed}
 use Rattle.file_parts.proofs.exact_packing.check_order.Goals as goal
 

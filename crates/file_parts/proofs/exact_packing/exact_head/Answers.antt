@@ -1,3 +1,4 @@
+-- `exact_head` lays the file of an exact folder out.
 use Rattle.file_parts.proofs.AllLaws.{◌≡◌, ◌++◌, ◌∙◌, IfErr-weaker, IfOk-weaker, exact_tail, exact_packed, OutOfMemory, large_fault, misplaced_fault, misplaced_memory, with_all, packed_long}
 use Rattle.file_parts.proofs.exact_packing.exact_head.Goals as goal
 

@@ -1,3 +1,4 @@
+-- `first_offset` returns the offset of the first block, by the laws of ExactPacked and PackedFiles.
 use Rattle.file_parts.proofs.AllLaws.{◌+◌, length, ◌∙◌, arith, ExactFile, exact_size, exact_packed, start_is, refused_more}
 use Rattle.file_parts.proofs.exact_packing.first_offset.Goals as goal
 

@@ -1,3 +1,4 @@
+-- `head_by` returns the head of the file with these offsets and this size.
 use Rattle.file_parts.proofs.AllLaws.{ℕ, List, ◌++◌, drop, take, sym, ap, subst, ◌∙◌, ExactFile, exact_placed, AreOffsets, exact_packed, fields_taken, joined_head}
 use Rattle.file_parts.proofs.exact_packing.head_by.Goals as goal
 

@@ -1,3 +1,4 @@
+-- `head_placed` does the same as `exact_head`, whether or not a block is misplaced.
 use Rattle.std.proofs.Common.{◌∙◌}
 use Rattle.file_parts.proofs.PackedFiles.{count_packed}
 use Rattle.file_parts.proofs.exact_packing.head_placed.Goals as goal

@@ -1,3 +1,4 @@
+-- `header_at` returns the bytes of the header with these offsets, by the laws of ExactPacked.
 use Rattle.file_parts.proofs.AllLaws.{◌<◌, ℕ, List, length, refl, sym, ap, ◌∙◌, arith, Database, ListedEntry, exact_placed, exact_packed, placed_count}
 use Rattle.file_parts.proofs.exact_packing.header_at.Goals as goal
 

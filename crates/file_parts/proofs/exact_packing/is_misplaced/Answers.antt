@@ -1,3 +1,5 @@
+-- `is_misplaced` returns whether the block at an index of the order has no bytes, and the block
+-- after it has a lower rank, by the laws of ExactInside.
 use Rattle.file_parts.proofs.AllLaws.{◌<◌, ℕ, List, Option, length, get_or, refl, sym, subst, ◌∙◌, arith, data_in, database_listed, rank_inside}
 use Rattle.file_parts.proofs.exact_packing.is_misplaced.Goals as goal
 

@@ -1,3 +1,5 @@
+-- `pack_exact` puts the parts of an exact folder together, by their ranks and with the filler last,
+-- and returns the file.
 use Rattle.file_parts.proofs.AllWords.{sym, subst, IfErr-weaker, IfOk-weaker, IsExactPackFault, IsExactlyPacked}
 use Rattle.file_parts.proofs.exact_packing.pack_exact.Goals as goal
 

@@ -1,3 +1,5 @@
+-- `place_ranks` writes the offset of each block to the place of its rank, and returns the size of
+-- the file, by the laws of ExactInside, ExactPacked, ExactPlaces and PackedFiles.
 use Rattle.file_parts.proofs.AllLaws.{◌≡◌, ◌+◌, ◌<◌, ◌≤◌, ℕ, List, Option, length, sym, ap, subst, ◌∙◌, arith, length-replicate, take_all, times, data_in, database_listed, ExactFile, exact_block, exact_size, exact_start, exact_packed, ranks_once, blocks_whole, offsets_are, size_is, ArePlaced, placed_next, placed_none, size_before, refused_more}
 use Rattle.file_parts.proofs.exact_packing.place_ranks.Goals as goal
 

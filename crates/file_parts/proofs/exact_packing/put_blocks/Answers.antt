@@ -1,3 +1,4 @@
+-- `put_blocks` writes the blocks in their order.
 use Rattle.file_parts.proofs.AllLaws.{◌≡◌, ◌+◌, ◌<◌, ◌≤◌, List, ℕ, Option, true, false, length, get_or, drop, refl, sym, ap, subst, ◌∙◌, arith, drop_all, data_in, block_bytes, Writes, then, stops, nothing, database_listed, ExactFile, exact_block, exact_packed, rank_inside, blocks_whole, blocks_of, rest_from}
 use Rattle.file_parts.proofs.exact_packing.put_blocks.Goals as goal
 

@@ -1,3 +1,4 @@
+-- `rank_at` returns the rank at an index of the order, by the laws of ExactInside.
 use Rattle.file_parts.proofs.AllLaws.{◌<◌, ℕ, List, length, get_or, refl, sym, subst, ◌∙◌, data_in, database_listed, rank_inside}
 use Rattle.file_parts.proofs.exact_packing.rank_at.Goals as goal
 

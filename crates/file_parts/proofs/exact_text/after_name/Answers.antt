@@ -1,3 +1,4 @@
+-- `after_name` returns the bytes after the name in its field, by the contracts of its calls.
 use Rattle.file_parts.proofs.AllWords.{◌-◌, List, ℕ, length, drop, take, ap, ◌∙◌, arith, name_in, not_truncated}
 use Rattle.std.proofs.lemmas.Slice.{between_is}
 use Rattle.file_parts.proofs.exact_text.after_name.Goals as goal

@@ -1,3 +1,4 @@
+-- `is_list_order` returns whether ranks are in list order, by the laws of ExactRising.
 use Rattle.file_parts.proofs.AllWords.{ℕ, suc, List, inl, inr, sym, ◌∙◌, arith, cases_lt}
 use Rattle.file_parts.proofs.ExactRising.{lower_breaks, not_lower, rising_all}
 use Rattle.file_parts.proofs.exact_text.is_list_order.Goals as goal

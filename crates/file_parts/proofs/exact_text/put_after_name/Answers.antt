@@ -1,3 +1,4 @@
+-- `put_after_name` writes the line with the bytes after the name, if one of them isn't zero.
 use Rattle.file_parts.proofs.AllLaws.{◌≡◌, ◌++◌, List, ℕ, true, refl, sym, ap, subst, ◌∙◌, codes, is_ok, false≢true, encode_lower, Writes, nothing, after_name_text, no_line, some_line, name_front}
 use Rattle.file_parts.proofs.exact_text.put_after_name.Goals as goal
 

@@ -1,3 +1,4 @@
+-- `put_body` writes the lines of the info blocks and of the entries, by the contracts of its calls.
 use Rattle.file_parts.proofs.AllWords.{is_ok, then, stops, body_lines, entry_lines, info_lines, with_names, exact_database}
 use Rattle.file_parts.proofs.exact_text.put_body.Goals as goal
 

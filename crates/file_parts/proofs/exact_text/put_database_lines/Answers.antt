@@ -1,3 +1,5 @@
+-- `put_database_lines` writes the lines of the header, the info blocks and the entries, as they
+-- stand.
 use Rattle.file_parts.proofs.AllWords.{◌++◌, List, ℕ, false, subst, is_ok, DatabaseHeader, header_values, Writes, then, stops, body_lines, database_text, header_lines, with_names, exact_database}
 use Rattle.file_parts.proofs.exact_text.put_database_lines.Goals as goal
 

@@ -1,3 +1,4 @@
+-- `put_entries` writes the lines of all entries, by the laws of ExactEntries.
 use Rattle.file_parts.proofs.AllLaws.{◌+◌, ◌<◌, ◌≤◌, List, ℕ, true, false, sym, subst, arith, entry_count_in, Writes, then, stops, nothing, exact_entry_line, rest_lines, all_lines, line_here, none_left}
 use Rattle.file_parts.proofs.exact_text.put_entries.Goals as goal
 

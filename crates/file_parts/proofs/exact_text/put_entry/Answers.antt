@@ -1,3 +1,4 @@
+-- `put_entry` writes the line of the entry at an index, by the laws of EntryLines and ExactHeads.
 use Rattle.file_parts.proofs.AllLaws.{List, ℕ, Option, false, sym, ap, ◌∙◌, subst, is_ok, Entry, entry_data, entry_in, entry_with, Writes, then, stops, entry_of, bytes_at, entry_name, entry_values, name_if_data, part_text, exact_entry, line_joined, with_twice, data_with}
 use Rattle.file_parts.proofs.exact_text.put_entry.Goals as goal
 

@@ -1,3 +1,4 @@
+-- `put_exact` writes the text `database` of a file that was taken apart as it stands.
 use Rattle.file_parts.proofs.AllWords.{is_ok, then, stops, database_text, ExactText, exact_lines, exact_text, text_of_exact, exact_of}
 use Rattle.file_parts.proofs.exact_text.put_exact.Goals as goal
 

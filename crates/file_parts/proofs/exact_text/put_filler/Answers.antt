@@ -1,3 +1,4 @@
+-- `put_filler` writes the line of the filler, by the laws of ExactHeads.
 use Rattle.file_parts.proofs.AllLaws.{◌≡◌, List, ℕ, false, length, sym, ap, subst, ◌∙◌, ◌==◌, is_ok, Writes, filler_in, filler_some}
 use Rattle.file_parts.proofs.exact_text.put_filler.Goals as goal
 

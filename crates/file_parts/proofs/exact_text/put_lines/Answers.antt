@@ -1,3 +1,4 @@
+-- `put_lines` writes the lines before those of the database, by the contracts of its calls.
 use Rattle.file_parts.proofs.AllWords.{◌++◌, List, ℕ, codes, is_ok, then, stops, exact_lines, after_name_text, filler_text, order_text}
 use Rattle.file_parts.proofs.exact_text.put_lines.Goals as goal
 

@@ -1,3 +1,4 @@
+-- `put_more` writes the lines from the bytes after the name on, by the contracts of its calls.
 use Rattle.file_parts.proofs.AllWords.{◌++◌, is_ok, then, stops, after_name_text, filler_text, order_text}
 use Rattle.file_parts.proofs.exact_text.put_more.Goals as goal
 

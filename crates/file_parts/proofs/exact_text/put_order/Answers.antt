@@ -1,3 +1,4 @@
+-- `put_order` writes the lines `order`, if the blocks are not in list order.
 use Rattle.file_parts.proofs.AllWords.{◌≡◌, List, ℕ, Bool, [], cond, true, sym, ap, subst, ◌∙◌, is_ok, Writes, nothing, order_lines, order_text}
 use Rattle.file_parts.proofs.exact_text.put_order.Goals as goal
 

@@ -1,3 +1,4 @@
+-- `put_placing` writes the line of the filler, and the lines `order`.
 use Rattle.file_parts.proofs.AllWords.{◌++◌, List, ℕ, subst, is_ok, Writes, then, stops, filler_text, order_text}
 use Rattle.file_parts.proofs.exact_text.put_placing.Goals as goal
 

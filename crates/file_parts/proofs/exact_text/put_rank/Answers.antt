@@ -1,3 +1,4 @@
+-- `put_rank` writes the line `order` of a rank, by the contracts of its calls.
 use Rattle.file_parts.proofs.AllWords.{◌++◌, List, ℕ, subst, codes, is_ok, Writes}
 use Rattle.file_parts.proofs.exact_text.put_rank.Goals as goal
 

@@ -1,3 +1,4 @@
+-- `put_ranks` writes a line `order` for each rank, by the laws of ExactRanks.
 use Rattle.file_parts.proofs.AllLaws.{◌≡◌, ◌+◌, ◌<◌, ◌≤◌, ◌++◌, List, ℕ, [], true, false, length, get_or, drop, sym, ap, subst, arith, drop_all, Writes, then, stops, nothing, order_line, order_lines, rest_from}
 use Rattle.file_parts.proofs.exact_text.put_ranks.Goals as goal
 

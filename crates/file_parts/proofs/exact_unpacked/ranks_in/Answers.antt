@@ -1,3 +1,5 @@
+-- `ranks_in` returns the ranks of the blocks that a file has, ordered by their offsets, and at one
+-- offset by rank, by the laws of ExactStarts.
 use Rattle.file_parts.proofs.AllLaws.{◌≤◌, List, length, map, ap, ◌∙◌, arith, rules, take_all, IsNonDecreasingBy-from_sort_by_key, offsets_in, block_order, BlockStart, order_is}
 use Rattle.file_parts.proofs.exact_unpacked.ranks_in.Goals as goal
 

@@ -1,3 +1,4 @@
+-- `unpack_exact` takes a file apart as it stands, by the laws of ExactFolders and ExactRead.
 use Rattle.file_parts.proofs.AllLaws.{◌≤◌, List, ℕ, length, sym, subst, most_bytes, exact_in, packs_exactly, is_exactly}
 use Rattle.file_parts.proofs.exact_unpacked.unpack_exact.Goals as goal
 

@@ -1,3 +1,5 @@
+-- `place_ranks` writes the offset of each block to the place of its rank, and returns the size of
+-- the file, by the laws of ExactPlaces and ExactWritten.
 use Rattle.file_parts.proofs.AllLaws.{◌≡◌, ◌+◌, ◌<◌, ◌≤◌, ℕ, List, length, ap, subst, ◌∙◌, arith, length-replicate, take_all, data_in, ExactFile, exact_block, exact_size, exact_start, ArePlaced, placed_next, placed_none, size_before, place_fault, size_placed}
 use Rattle.file_parts.proofs.ExactWritten.{blocks_whole, offsets_are}
 use Rattle.file_parts.proofs.exact_writing.place_ranks.Goals as goal

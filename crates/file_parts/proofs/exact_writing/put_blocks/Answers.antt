@@ -1,3 +1,4 @@
+-- `put_blocks` writes the blocks in their order, by the laws of ExactPlaces and ExactWritten.
 use Rattle.file_parts.proofs.AllLaws.{◌≡◌, ◌+◌, ◌<◌, ◌≤◌, List, ℕ, true, false, length, get_or, drop, sym, ap, subst, ◌∙◌, arith, block_bytes, Writes, then, stops, nothing, ExactFile, exact_block, blocks_of, blocks_from, blocks_none}
 use Rattle.file_parts.proofs.ExactWritten.{blocks_whole}
 use Rattle.file_parts.proofs.exact_writing.put_blocks.Goals as goal

@@ -1,3 +1,4 @@
+-- `put_entries` writes the entries, by the laws of ExactWritten.
 use Rattle.file_parts.proofs.AllLaws.{◌≡◌, ◌+◌, ◌<◌, ◌≤◌, List, ℕ, true, false, drop, length, get_or, Option, sym, subst, ◌∙◌, arith, length-map, flat_map, Entry, entry_bytes, entry_data, entry_of, Writes, then, stops, nothing, ExactFile, exact_placed, entries_from, entries_none}
 use Rattle.file_parts.proofs.exact_writing.put_entries.Goals as goal
 

@@ -1,3 +1,4 @@
+-- `put_exact` writes a file with blocks at these offsets.
 use Rattle.file_parts.proofs.AllLaws.{◌≡◌, ℕ, List, true, false, drop, take, sym, ap, subst, ◌∙◌, rules, is_ok, Writes, exact_bytes, exact_placed, fields_taken, all_written, stops_name, stops_fields, stops_entries}
 use Rattle.file_parts.proofs.exact_writing.put_exact.Goals as goal
 

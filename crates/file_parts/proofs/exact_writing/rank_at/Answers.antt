@@ -1,3 +1,4 @@
+-- `rank_at` returns the rank at an index of the order, by the laws of ExactWritten.
 use Rattle.file_parts.proofs.AllWords.{◌<◌, ℕ, List, length, get_or, sym, subst, data_in}
 use Rattle.file_parts.proofs.ExactWritten.{rank_inside}
 use Rattle.file_parts.proofs.exact_writing.rank_at.Goals as goal

@@ -1,3 +1,4 @@
+-- `keep_parts` lays a file out that keeps these things, by the laws of ExactRead and KeptSources.
 use Rattle.file_parts.proofs.AllLaws.{List, ℕ, ◌≤◌, length, arith, most_file_bytes, most_bytes, known_of, is_exactly, keep_why, kept_from, kept_size}
 use Rattle.file_parts.proofs.kept.keep_parts.Goals as goal
 

@@ -1,3 +1,4 @@
+-- `keeping_of` returns the file that keeps these things.
 use Rattle.file_parts.proofs.AllLaws.{List, ℕ, blocks_in, filler_in, written_filler, exact_of, is_exactly, filler_either, keeping_is, keeping_ordered, ranks_are, whole_permuted}
 use Rattle.file_parts.proofs.KeptSound.{IsWholeOrder, own_order}
 use Rattle.file_parts.proofs.kept.keeping_of.Goals as goal

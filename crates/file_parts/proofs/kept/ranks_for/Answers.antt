@@ -1,3 +1,4 @@
+-- `ranks_for` returns the ranks of the blocks in the order of a file that keeps these things.
 use Rattle.file_parts.proofs.AllWords.{ℕ, IsNonDecreasingBy-from_sort}
 use Rattle.file_parts.proofs.kept.ranks_for.Goals as goal
 

@@ -1,3 +1,5 @@
+-- `read_database` reads the lines of a text that are left: those of the header, and those of the
+-- entries, by the laws of ReadTexts.
 use Rattle.file_parts.proofs.AllWords.{header_values, entries_listed}
 use Rattle.file_parts.proofs.ReadTexts.{entries_faulty, listed_read}
 use Rattle.file_parts.proofs.listed.read_database.Goals as goal

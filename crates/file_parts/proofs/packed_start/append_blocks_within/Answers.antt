@@ -1,3 +1,4 @@
+-- `append_blocks_within` appends the blocks, up to `most` bytes in all.
 use Rattle.file_parts.proofs.AllLaws.{◌≡◌, ◌+◌, ◌<◌, ◌≤◌, ◌++◌, ℕ, List, Option, length, take, sym, ap, ◌∙◌, arith, append-nil, append_assoc, take_all, data_in, block_bytes, database_listed, filled, part_at, blocks_on, block_here, blocks_end, length-take_most, take_front}
 use Rattle.file_parts.proofs.packed_start.append_blocks_within.Goals as goal
 

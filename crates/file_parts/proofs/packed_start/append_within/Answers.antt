@@ -1,3 +1,4 @@
+-- `append_within` appends bytes, up to `most` bytes in all, by the laws of PackedStarts.
 use Rattle.std.proofs.Common.{◌≡◌, ◌-◌, ◌++◌, ℕ, List, length, take, ap, ◌∙◌, arith}
 use Rattle.file_parts.proofs.PackedStarts.{onto, within_is}
 use Rattle.file_parts.proofs.packed_start.append_within.Goals as goal

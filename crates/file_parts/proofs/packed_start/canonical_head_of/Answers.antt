@@ -1,3 +1,5 @@
+-- `canonical_head_of` returns the bytes before the blocks in the canonical form of a file, by the
+-- bytes before the blocks of the file, by the laws of PackedEntries and PackedStarts.
 use Rattle.file_parts.proofs.AllLaws.{◌++◌, ℕ, List, subst, blocks_in, all_bytes, IsCanonical, packed_good, form_is}
 use Rattle.file_parts.proofs.packed_start.canonical_head_of.Goals as goal
 

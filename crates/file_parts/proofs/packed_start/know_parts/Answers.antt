@@ -1,3 +1,4 @@
+-- `know_parts` proves that the numbers in each part are bytes, by the contracts of its calls.
 use Rattle.file_parts.proofs.AllWords.{ℕ, List, get_or, sym, subst, ◌∙◌, arith, below_more, get_or_default, AreBytes}
 use Rattle.file_parts.proofs.packed_start.know_parts.Goals as goal
 

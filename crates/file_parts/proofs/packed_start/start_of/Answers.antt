@@ -1,3 +1,4 @@
+-- `start_of` returns the first bytes of a file, by the bytes before its blocks.
 use Rattle.file_parts.proofs.AllLaws.{◌+◌, ◌≤◌, ℕ, List, length, ap, subst, arith, AreBytes, u32_at, app_info_at, most_app, head_least, head_most, starts}
 use Rattle.file_parts.proofs.packed_start.start_of.Goals as goal
 

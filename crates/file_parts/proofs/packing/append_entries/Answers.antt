@@ -1,3 +1,4 @@
+-- `append_entries` appends the entries, and returns the offset at which their data ends.
 use Rattle.file_parts.proofs.AllLaws.{◌+◌, ◌<◌, ◌≤◌, ◌++◌, ℕ, List, Option, length, drop, sym, ap, ◌∙◌, arith, append-nil, append_assoc, Entry, entry_bytes, entry_with, block_bytes, block_offset, idle_entry, ListedEntry, entry_listed, data_text, entries_text, filled, packed_entries, part_at, text_here, data_here, refused_more}
 use Rattle.file_parts.proofs.PackedEntries.{none_left}
 use Rattle.file_parts.proofs.packing.append_entries.Goals as goal

@@ -1,3 +1,5 @@
+-- `file_head` returns the bytes before the blocks in the file of the database with these parts, and
+-- the size of the file, by the laws of PackedEntries.
 use Rattle.file_parts.proofs.AllLaws.{◌++◌, ◌∷◌, [], ℕ, List, sym, ap, ◌∙◌, blocks_text, entries_text, header_text, file_parts, ListedEntry, database_of_parts, packed_entries, joined}
 use Rattle.file_parts.proofs.packing.file_head.Goals as goal
 

@@ -1,3 +1,4 @@
+-- `find_entries` returns the offsets at which the blocks of the file begin.
 use Rattle.file_parts.proofs.AllLaws.{◌≡◌, ◌+◌, ℕ, List, length, ap, arith, block_size, file_size, database_of_parts, refused_more, sizes}
 use Rattle.file_parts.proofs.packing.find_entries.Goals as goal
 

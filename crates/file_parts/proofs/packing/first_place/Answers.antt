@@ -1,3 +1,4 @@
+-- `first_place` returns the offset of the first block, by the laws of PackedEntries.
 use Rattle.file_parts.proofs.AllLaws.{◌+◌, ℕ, List, Bool, length, sym, ap, ◌∙◌, entry_offset, has_resources, ListedEntry, length-packed}
 use Rattle.file_parts.proofs.packing.first_place.Goals as goal
 

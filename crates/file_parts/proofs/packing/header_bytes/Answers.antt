@@ -1,3 +1,4 @@
+-- `header_bytes` returns the bytes of the header of the file, by the laws of PackedEntries.
 use Rattle.file_parts.proofs.AllLaws.{List, ℕ, Option, length, map, ap, ◌∙◌, sym, refl, Database, idle, idle_entry, with_offsets, first_block, block_offset, length-map, length-with_offsets, data_at, ListedEntry, database_of_parts, part_at, length-packed}
 use Rattle.file_parts.proofs.packing.header_bytes.Goals as goal
 

@@ -1,3 +1,4 @@
+-- `pack_head` puts the parts of a listed database together, by their ranks.
 use Rattle.file_parts.proofs.AllLaws.{◌++◌, arith, length-append, blocks_text, database_of_parts, packed_has_file, size_of}
 use Rattle.file_parts.proofs.UnpackedBack.{unpacks_back}
 use Rattle.file_parts.proofs.packing.pack_head.Goals as goal

@@ -1,3 +1,4 @@
+-- `part_bytes` returns the bytes of the part of a rank, and none if there is no part.
 use Rattle.file_parts.proofs.AllWords.{[], List, ℕ, sym, ap, ◌∙◌, get_or_default, block_bytes, filled}
 use Rattle.file_parts.proofs.packing.part_bytes.Goals as goal
 

@@ -1,3 +1,5 @@
+-- `placed` returns an entry as it is written to the file: no record is busy, and its data begins at
+-- an offset, by the laws of PackedEntries.
 use Rattle.file_parts.proofs.AllLaws.{◌∙◌, entry_of, entry_placed}
 use Rattle.file_parts.proofs.packing.placed.Goals as goal
 

@@ -1,3 +1,4 @@
+-- `put_blocks` writes the blocks, by the laws of PackedFiles.
 use Rattle.file_parts.proofs.AllLaws.{◌+◌, ◌<◌, ◌≤◌, List, ℕ, Option, true, false, length, sym, ap, subst, ◌∙◌, arith, data_in, block_bytes, Writes, then, stops, nothing, database_listed, filled, part_at, blocks_on, block_here, blocks_end}
 use Rattle.file_parts.proofs.packing.put_blocks.Goals as goal
 

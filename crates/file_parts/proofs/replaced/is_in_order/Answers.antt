@@ -1,3 +1,4 @@
+-- `is_in_order` returns whether no block is misplaced, by the laws of ReplacedSound.
 use Rattle.file_parts.proofs.AllLaws.{ℕ, List, ◌≡◌, length, false, ap, sym, ◌∙◌, below_more, arith, is_misplaced, exact_replacing, in_order}
 use Rattle.file_parts.proofs.replaced.is_in_order.Goals as goal
 

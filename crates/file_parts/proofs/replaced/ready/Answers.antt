@@ -1,3 +1,4 @@
+-- `ready` lays a file with a block replaced out, by the laws of ReplacedFiles and ReplacedSound.
 use Rattle.file_parts.proofs.AllLaws.{refl, exact_of, exactly_in, part_empty, place_why}
 use Rattle.file_parts.proofs.replaced.ready.Goals as goal
 

@@ -1,3 +1,4 @@
+-- `replace_block` replaces the block of a rank by the bytes of a part.
 use Rattle.file_parts.proofs.ReplacedSound.{replaced_all}
 use Rattle.file_parts.proofs.replaced.replace_block.Goals as goal
 

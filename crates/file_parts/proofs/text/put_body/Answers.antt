@@ -1,3 +1,4 @@
+-- `put_body` writes the lines after those of the header, by the contracts of its calls.
 use Rattle.file_parts.proofs.AllWords.{List, ℕ, ◌++◌, None, get_or, codes, is_ok, blocks_in, entries_read, then, stops, app_name, sort_name, info_line, name_if_data, named_entries, entry_lines}
 use Rattle.file_parts.proofs.text.put_body.Goals as goal
 

@@ -1,3 +1,4 @@
+-- `put_database` writes the text `database` of a file that was taken apart.
 use Rattle.file_parts.proofs.AllWords.{List, ℕ, Option, subst, is_ok, Database, Writes, reads, read_once, database_text, with_names, database_of}
 use Rattle.file_parts.proofs.text.put_database.Goals as goal
 

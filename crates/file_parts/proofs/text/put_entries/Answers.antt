@@ -1,3 +1,4 @@
+-- `put_entries` writes the lines of all entries, by the laws of EntryLines.
 use Rattle.file_parts.proofs.AllWords.{◌+◌, ◌<◌, ◌≤◌, List, ℕ, true, false, sym, subst, arith, entry_count_in, Writes, then, stops, nothing, line_at}
 use Rattle.file_parts.proofs.EntryLines.{rest_lines, line_here, none_left}
 use Rattle.file_parts.proofs.text.put_entries.Goals as goal

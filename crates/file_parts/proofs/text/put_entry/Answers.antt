@@ -1,3 +1,4 @@
+-- `put_entry` writes the line of the entry at an index, by the laws of EntryLines.
 use Rattle.file_parts.proofs.AllLaws.{◌+◌, List, ℕ, Option, None, false, get_or, sym, ◌∙◌, subst, is_ok, Entry, entry_data, entry_in, entry_with, blocks_in, Writes, then, stops, entry_of, bytes_at, entry_read_at, data_read, entry_name, entry_values, name_if_data, part_text, any_part, line_joined}
 use Rattle.file_parts.proofs.text.put_entry.Goals as goal
 

@@ -1,3 +1,4 @@
+-- `put_header` writes the lines of the values of a header, by the contracts of its calls.
 use Rattle.file_parts.proofs.AllWords.{◌≡◌, List, ℕ, refl, subst, is_ok, Writes, header_values, header_lines}
 use Rattle.file_parts.proofs.text.put_header.Goals as goal
 

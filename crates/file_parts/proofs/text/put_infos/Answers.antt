@@ -1,3 +1,4 @@
+-- `put_infos` writes the lines of the info blocks, by the contracts of its calls.
 use Rattle.file_parts.proofs.AllWords.{None, get_or, codes, is_ok, blocks_in, then, stops, app_name, sort_name, info_line, name_if_data}
 use Rattle.file_parts.proofs.text.put_infos.Goals as goal
 

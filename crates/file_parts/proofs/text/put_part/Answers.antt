@@ -1,3 +1,4 @@
+-- `put_part` writes the end of the line of an entry: the name of its part.
 use Rattle.file_parts.proofs.AllLaws.{List, ℕ, subst, is_ok, Writes, part_joined}
 use Rattle.file_parts.proofs.text.put_part.Goals as goal
 

@@ -1,3 +1,4 @@
+-- `put_sort` writes the line of the SortInfo block, by the contracts of its calls.
 use Rattle.file_parts.proofs.AllWords.{List, ℕ, Option, ap, subst, codes, is_ok, Writes, sort_name, info_line, name_if_data}
 use Rattle.file_parts.proofs.text.put_sort.Goals as goal
 

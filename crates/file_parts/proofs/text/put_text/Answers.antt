@@ -1,3 +1,4 @@
+-- `put_text` writes the text of the database that is read from a file, with the names of its parts.
 use Rattle.file_parts.proofs.AllWords.{List, ℕ, false, subst, rules, is_ok, header_values, Writes, then, stops, header_lines}
 use Rattle.file_parts.proofs.Wholes.{rest_of, text_is}
 use Rattle.file_parts.proofs.text.put_text.Goals as goal

@@ -1,3 +1,4 @@
+-- `taken_apart` takes a file that is opened apart, by the laws of PackedBack.
 use Rattle.pdb_format.proofs.FileIds.{ids_for}
 use Rattle.pdb_format.proofs.ReadFiles.{reads}
 use Rattle.file_parts.proofs.PackedBack.{packs_back}

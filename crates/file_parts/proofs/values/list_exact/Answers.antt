@@ -1,3 +1,4 @@
+-- `list_exact` returns the exact file of a database, with the bytes after its name and a filler.
 use Rattle.file_parts.proofs.AllWords.{ap, sym, ◌∙◌, Ok, database_listed, exact_listed, ExactHead, exact_with}
 use Rattle.file_parts.proofs.ValueLaws.{no_file, text_is}
 use Rattle.file_parts.proofs.values.list_exact.Goals as goal

@@ -1,3 +1,4 @@
+-- `put_tail` of `ListedFolder` meets its contract, by the contracts of its calls.
 use Rattle.file_parts.proofs.AllWords.{sym, subst, is_ok, Writes, folder_tail, ListedFolder}
 use Rattle.file_parts.proofs.either.ListedFolder.put_tail.Goals as goal
 

@@ -1,3 +1,4 @@
+-- `put_text` writes the text `database`, by the contracts of its calls.
 use Rattle.file_parts.proofs.AllWords.{ℕ, List, sym, subst, is_ok, Writes, IsTextOf}
 use Rattle.file_parts.specs.declared.either.TakenApart.{TakenApart}
 use Rattle.file_parts.proofs.either.TakenApart.put_text.Goals as goal

@@ -1,3 +1,5 @@
+-- `changes_by` returns the changes of a file that are left, for the IDs that its records get in the
+-- canonical form, by the laws of KeptChanges.
 use Rattle.file_parts.proofs.AllWords.{database_read, known_of, AreChangesLeft, sym, subst}
 use Rattle.file_parts.proofs.KeptChanges.{are_left}
 use Rattle.file_parts.proofs.keep.Keep.changes_by.Goals as goal

@@ -1,3 +1,4 @@
+-- `entry` of `KeepingExactSource` meets its contract, by the laws of KeptSources.
 use Rattle.std.proofs.Common.{arith}
 use Rattle.file_parts.proofs.KeptSources.{entry_count, values_at}
 use Rattle.file_parts.proofs.kept.KeepingExactSource.entry.Goals as goal

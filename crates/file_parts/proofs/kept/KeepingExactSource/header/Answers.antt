@@ -1,3 +1,4 @@
+-- `header` of `KeepingExactSource` meets its contract, by the laws of KeptSources.
 use Rattle.file_parts.proofs.AllLaws.{ap, sym, subst, ◌∙◌, IsDatabaseName, header_read, file_named, entry_count, header_is, name_is}
 use Rattle.file_parts.proofs.kept.KeepingExactSource.header.Goals as goal
 

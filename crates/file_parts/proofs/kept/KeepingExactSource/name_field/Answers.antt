@@ -1,3 +1,4 @@
+-- `name_field` of `KeepingExactSource` meets its contract, by the laws of KeptSources.
 use Rattle.file_parts.proofs.AllLaws.{ap, ◌∙◌, DatabaseHeader, name_field, field_is, header_name}
 use Rattle.file_parts.proofs.kept.KeepingExactSource.name_field.Goals as goal
 

@@ -1,3 +1,4 @@
+-- `block` of `ReplacingExactSource` meets its contract, by the laws of ReplacedFiles.
 use Rattle.file_parts.proofs.AllWords.{◌<◌, length, rules, arith, blocks_in}
 use Rattle.file_parts.proofs.ReplacedFiles.{block_new, block_old, count_is}
 use Rattle.file_parts.proofs.replaced.ReplacingExactSource.block.Goals as goal

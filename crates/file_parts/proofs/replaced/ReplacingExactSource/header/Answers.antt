@@ -1,3 +1,4 @@
+-- `header` of `ReplacingExactSource` meets its contract.
 use Rattle.file_parts.proofs.AllWords.{sym, ◌∙◌, length-entries_in, database_in, exact_database}
 use Rattle.file_parts.proofs.ExactFits.{file_name}
 use Rattle.file_parts.proofs.ReplacedFiles.{entry_count}

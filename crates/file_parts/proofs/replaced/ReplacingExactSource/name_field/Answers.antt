@@ -1,3 +1,4 @@
+-- `name_field` of `ReplacingExactSource` meets its contract, by the laws of ReplacedFiles.
 use Rattle.file_parts.proofs.AllLaws.{◌≤◌, List, ℕ, length, sym, ap, subst, ◌∙◌, take, arith, not_truncated, exactly_in}
 use Rattle.file_parts.proofs.replaced.ReplacingExactSource.name_field.Goals as goal
 
