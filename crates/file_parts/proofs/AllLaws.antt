@@ -19,4 +19,5 @@ pub use Rattle.file_parts.proofs.PackedFiles.{block_here, blocks_end, blocks_on,
 pub use Rattle.file_parts.proofs.PackedStarts.{form_is, head_least, head_most, length-take_most, size_of, starts, take_front}
 pub use Rattle.file_parts.proofs.ReplacedFiles.{exactly_in}
 pub use Rattle.file_parts.proofs.ReplacedSound.{in_order, part_empty, place_why}
-pub use Rattle.file_parts.proofs.AllWords.{AfterName, All, AreBytes, AreMarked, AreOffsets, BlockStart, Bool, Database, DatabaseHeader, Entry, Err, ExactFile, IfErr-weaker, IfOk-weaker, IsCanonical, IsDatabaseName, IsGoodEntry, IsNonDecreasingBy-from_sort_by_key, List, ListedEntry, None, Option, OutOfMemory, Result, ScriptFault, Writes, Writing, [], after_name_of, after_name_text, all_bytes, ap, app_info_at, append-nil, append_assoc, arith, below_more, block_bytes, block_offset, block_order, block_size, blocks_in, blocks_text, bytes_at, codes, data_at, data_in, data_read, data_text, database_listed, database_of_parts, drop, drop-replicate, drop_all, encode_lower, entries_listed, entries_text, entry_bytes, entry_count_in, entry_data, entry_in, entry_listed, entry_name, entry_of, entry_offset, entry_read_at, entry_values, entry_with, exact_block, exact_blocks, exact_bytes, exact_entry, exact_entry_line, exact_in, exact_of, exact_packed, exact_placed, exact_replacing, exact_size, exact_start, exact_tail, false, false≢true, file_named, file_parts, file_size, filled, filler_in, first_block, flat_map, free_ranks, get_or, has_resources, header_read, header_text, idle, idle_entry, is_misplaced, is_ok, known_of, length, length-append, length-map, length-replicate, length-with_offsets, map, most_app, most_bytes, most_file_bytes, name_field, name_if_data, not_truncated, nothing, offsets_in, option_map, order_line, order_lines, packed_entries, part_at, part_text, read_entries, refl, replicate, rules, slice_index, stops, subst, sym, take, take-replicate, take_all, then, times, true, u32_at, unless_bad, with_offsets, written_filler, ℕ, ◌++◌, ◌+◌, ◌-◌, ◌<◌, ◌==◌, ◌∙◌, ◌∷◌, ◌≡◌, ◌≤◌}
+unfoldable pub use Rattle.file_parts.proofs.AllWords.{exact_blocks, exact_bytes, name_field, u32_at}
+pub use Rattle.file_parts.proofs.AllWords.{AfterName, All, AreBytes, AreMarked, AreOffsets, BlockStart, Bool, Database, DatabaseHeader, Entry, Err, ExactFile, IfErr-weaker, IfOk-weaker, IsCanonical, IsDatabaseName, IsGoodEntry, IsNonDecreasingBy-from_sort_by_key, List, ListedEntry, None, Option, OutOfMemory, Result, ScriptFault, Writes, Writing, [], after_name_of, after_name_text, all_bytes, ap, app_info_at, append-nil, append_assoc, arith, below_more, block_bytes, block_offset, block_order, block_size, blocks_in, blocks_text, bytes_at, codes, data_at, data_in, data_read, data_text, database_listed, database_of_parts, drop, drop-replicate, drop_all, encode_lower, entries_listed, entries_text, entry_bytes, entry_count_in, entry_data, entry_in, entry_listed, entry_name, entry_of, entry_offset, entry_read_at, entry_values, entry_with, exact_block, exact_entry, exact_entry_line, exact_in, exact_of, exact_packed, exact_placed, exact_replacing, exact_size, exact_start, exact_tail, false, false≢true, file_named, file_parts, file_size, filled, filler_in, first_block, flat_map, free_ranks, get_or, has_resources, header_read, header_text, idle, idle_entry, is_misplaced, is_ok, known_of, length, length-append, length-map, length-replicate, length-with_offsets, map, most_app, most_bytes, most_file_bytes, name_if_data, not_truncated, nothing, offsets_in, option_map, order_line, order_lines, packed_entries, part_at, part_text, read_entries, refl, replicate, rules, slice_index, stops, subst, sym, take, take-replicate, take_all, then, times, true, unless_bad, with_offsets, written_filler, ℕ, ◌++◌, ◌+◌, ◌-◌, ◌<◌, ◌==◌, ◌∙◌, ◌∷◌, ◌≡◌, ◌≤◌}

@@ -9,10 +9,13 @@ pub use Rattle.db_format.specs.Headers.{header_values}
 pub use Rattle.db_format.specs.declared.db_entry.DbEntry.{DbEntry}
 pub use Rattle.db_format.specs.declared.db_entry.DbEntry.TheVariants.{Record, Resource}
 pub use Rattle.file_parts.specs.Either.{IsCanonicallyRead, IsExactlyRead, IsFaultOf, IsFaultyText, IsReadFrom, IsTextOf, folder_tail}
-pub use Rattle.file_parts.specs.Exact.{ExactFile, HasValuesOf, IsExactly, IsOrderOf, entries_placed, exact_block, exact_blocks, exact_bytes, exact_database, exact_entry, exact_in, exact_offset, exact_placed, exact_size, exact_start, exact_tail, is_misplaced, offset_among}
+unfoldable pub use Rattle.file_parts.specs.Exact.{exact_blocks, exact_bytes, exact_database}
+pub use Rattle.file_parts.specs.Exact.{ExactFile, HasValuesOf, IsExactly, IsOrderOf, entries_placed, exact_block, exact_entry, exact_in, exact_offset, exact_placed, exact_size, exact_start, exact_tail, is_misplaced, offset_among}
 pub use Rattle.file_parts.specs.ExactListed.{AreMarked, AreOffsets, HasExactParts, IsExactPackFault, IsExactlyPacked, IsListedExact, IsMisplacedLine, exact_listed, exact_packed, free_ranks, is_free}
-pub use Rattle.file_parts.specs.ExactReading.{ExactHead, after_name_fault, exact_with, head_of, if_exact, is_after_name, next_order, only_word_at, or_fault, order_fault, read_after_name, read_exact, read_exact_from, read_exact_head, read_exact_line, read_order, read_order_line, said_by, spelled_after_name, spelled_rank, unless_head, value_if, words_and}
-pub use Rattle.file_parts.specs.ExactTexts.{ExactText, after_name_of, exact_lines, exact_of_parts, exact_text, filler_line, filler_name, filler_named, is_other, is_rising, name_field_line, order_line, order_lines, order_of, rank_word, text_of_exact, unless_rising, unless_zeros}
+unfoldable pub use Rattle.file_parts.specs.ExactReading.{read_exact}
+pub use Rattle.file_parts.specs.ExactReading.{ExactHead, after_name_fault, exact_with, head_of, if_exact, is_after_name, next_order, only_word_at, or_fault, order_fault, read_after_name, read_exact_from, read_exact_head, read_exact_line, read_order, read_order_line, said_by, spelled_after_name, spelled_rank, unless_head, value_if, words_and}
+unfoldable pub use Rattle.file_parts.specs.ExactTexts.{exact_lines, exact_text}
+pub use Rattle.file_parts.specs.ExactTexts.{ExactText, after_name_of, exact_of_parts, filler_line, filler_name, filler_named, is_other, is_rising, name_field_line, order_line, order_lines, order_of, rank_word, text_of_exact, unless_rising, unless_zeros}
 pub use Rattle.file_parts.specs.ExactUnpacking.{after_name_text, block_order, block_starts, exact_entry_line, exact_of, filler_text, order_text}
 pub use Rattle.file_parts.specs.ExactWriting.{AreExactPlaces, HasValuesAt, IsOrdered, IsPlaceFault}
 pub use Rattle.file_parts.specs.Keeping.{AreChangesLeft, KeepsParts, changes_left, keeps_nothing, kept_exact}
@@ -20,9 +23,11 @@ pub use Rattle.file_parts.specs.Laws.{HasText, IsNamedEntry, IsPartName, PacksBa
 pub use Rattle.file_parts.specs.Left.{Left, left}
 pub use Rattle.file_parts.specs.Listed.{IsGoodEntry, IsListed, database_listed, entries_listed, entry_listed}
 pub use Rattle.file_parts.specs.Packing.{IsRefusedFor, database_of_parts, filled, filled_entries, packed_entries, part_at, with_parts}
-pub use Rattle.file_parts.specs.Reading.{Read, database_with, fault_in, field, header_with, next_of, number, one_more, read_counts, read_database, read_database_from, read_entries, read_head, read_infos, read_kinds, read_title, then_read, unless_bad, unless_fault}
+unfoldable pub use Rattle.file_parts.specs.Reading.{read_database}
+pub use Rattle.file_parts.specs.Reading.{Read, database_with, fault_in, field, header_with, next_of, number, one_more, read_counts, read_database_from, read_entries, read_head, read_infos, read_kinds, read_title, then_read, unless_bad, unless_fault}
 pub use Rattle.file_parts.specs.Replacing.{IsReplaceFault, IsReplaced, IsReplacing, Replaces, block_in, block_replaced, bytes_replaced, entries_replaced, exact_replacing, file_replaced, has_block_of_rank, size_fault}
-pub use Rattle.file_parts.specs.Texts.{app_name, body_lines, database_text, entry_line, entry_lines, entry_name, entry_values, header_lines, info_line, info_lines, name_if_data, named_entries, part_text, sort_name, with_names}
+unfoldable pub use Rattle.file_parts.specs.Texts.{body_lines, database_text, header_lines, info_lines}
+pub use Rattle.file_parts.specs.Texts.{app_name, entry_line, entry_lines, entry_name, entry_values, info_line, name_if_data, named_entries, part_text, sort_name, with_names}
 pub use Rattle.file_parts.specs.Unpacking.{IsUnpacked, database_of, line_at}
 pub use Rattle.file_parts.specs.Values.{HasBadRank, IsNoExactFile, valued_head, valued_text}
 pub use Rattle.file_parts.specs.Words.{IsGoodWord, begins_name, entry_word, has_name_bytes, is_name, is_name_byte, name_if, only_word, part_or, read_entry, spelled_name, spelled_part, unless_missing, words_after}
@@ -38,16 +43,20 @@ pub use Rattle.file_parts.specs.declared.listed.Listed.{Listed}
 pub use Rattle.file_parts.specs.declared.packing.PackFault.{PackFault}
 pub use Rattle.file_parts.specs.declared.packing.PackFault.TheVariants.{BadLine, OutOfMemory, TooLarge}
 pub use Rattle.file_parts.specs.declared.replaced.Replacing.{Replacing}
-pub use Rattle.heap_model.specs.Bytes.{AreBytes, u16_at, u16_bytes, u24_at, u32_at, u32_bytes}
-pub use Rattle.heap_model.specs.Database.{Database, DatabaseFits, DatabaseHeader, Entry, EntryFits, HasName, HeaderFits, IsDatabaseName, a_record, a_resource, data_in, database_in, entry_at, entry_bytes, entry_count_in, entry_data, entry_in, entry_offset, entry_with, fields_behind_name, has_resources, header_bytes, header_in, is_deleted, name_field, name_in, resources_in, spelled}
+unfoldable pub use Rattle.heap_model.specs.Bytes.{u16_at, u16_bytes, u24_at, u32_at, u32_bytes}
+pub use Rattle.heap_model.specs.Bytes.{AreBytes}
+unfoldable pub use Rattle.heap_model.specs.Database.{database_in, header_bytes, header_in, name_field, name_in, spelled}
+pub use Rattle.heap_model.specs.Database.{Database, DatabaseFits, DatabaseHeader, Entry, EntryFits, HasName, HeaderFits, IsDatabaseName, a_record, a_resource, data_in, entry_at, entry_bytes, entry_count_in, entry_data, entry_in, entry_offset, entry_with, fields_behind_name, has_resources, is_deleted, resources_in}
 pub use Rattle.heap_model.specs.DatabaseFields.{app_info_at, entry_size}
 pub use Rattle.heap_model.specs.FileSteps.{size_of_block}
-pub use Rattle.heap_model.specs.Files.{HasBadOffset, HasNoFault, HaveIds, IsBadInfo, IsOutside, IsReadAs, Reads, block_at, block_bytes, block_end, block_offset, block_size, blocks_in, entries_end, entries_with_offsets, file_of, first_block, idle, idle_attributes, idle_entry, kept_ids, offsets_in, with_offsets}
+unfoldable pub use Rattle.heap_model.specs.Files.{file_of}
+pub use Rattle.heap_model.specs.Files.{HasBadOffset, HasNoFault, HaveIds, IsBadInfo, IsOutside, IsReadAs, Reads, block_at, block_bytes, block_end, block_offset, block_size, blocks_in, entries_end, entries_with_offsets, first_block, idle, idle_attributes, idle_entry, kept_ids, offsets_in, with_offsets}
 pub use Rattle.heap_model.specs.Lists.{Distinct, numbered, same, times}
 pub use Rattle.heap_model.specs.Store.{unique_id, unique_ids}
 pub use Rattle.heap_model.specs.UniqueIds.{greatest_id, seed_in, with_seed}
 pub use Rattle.hex.proofs.HexLemmas.{IsDigits-lower_digits, decode_of-encode_lower}
-pub use Rattle.hex.specs.Hex.{encode_lower, encode_with, hex_digit_value, lower_digits}
+unfoldable pub use Rattle.hex.specs.Hex.{encode_with}
+pub use Rattle.hex.specs.Hex.{encode_lower, hex_digit_value, lower_digits}
 pub use Rattle.laws_store.proofs.Shapes.{entries_upto, fields_back, header_fits, length-entries_in}
 pub use Rattle.laws_store.proofs.Spellings.{entry_behind, length-entries, length-fields}
 pub use Rattle.laws_store.proofs.Times.{contained-times, distinct-times, same-no, same-yes, times-append, times-cons, times-distinct, times-remove, times-some}
@@ -72,13 +81,15 @@ pub use Rattle.pdb_format.specs.FileStarts.{IsFileStart, most_app, most_start}
 pub use Rattle.pdb_format.specs.FileTexts.{blocks_text, data_at, data_text, entries_text, header_text}
 pub use Rattle.pdb_format.specs.Filler.{filler_in, first_start, written_filler}
 pub use Rattle.pdb_format.specs.Opened.{HasPlaces, most_file_bytes}
-pub use Rattle.pdb_format.specs.ReadFiles.{HasIdsFor, database_read, entries_read, entry_read, entry_read_at, header_read}
+unfoldable pub use Rattle.pdb_format.specs.ReadFiles.{database_read}
+pub use Rattle.pdb_format.specs.ReadFiles.{HasIdsFor, entries_read, entry_read, entry_read_at, header_read}
 pub use Rattle.pdb_format.specs.Starts.{begins, is_block_there, order, start_of, starts_in}
 pub use Rattle.pdb_format.specs.Writable.{HasFile, IsKeptAs, IsReadBack, IsWritableEntry, file_size}
 pub use Rattle.pdb_format.specs.declared.blocks.Block.{Block}
 pub use Rattle.script_lines.proofs.ReadBack.{are_four, four_bytes_are_read_back, texts_are_read_back, texts_are_words}
 pub use Rattle.script_lines.specs.Spellings.{below, digit_value, hex_below, number_behind, number_below, number_in, spelled_four, spelled_number}
-pub use Rattle.script_lines.specs.Words.{is_blank, is_passed_over, plain_word, quoted_word, with_word, words_of}
+unfoldable pub use Rattle.script_lines.specs.Words.{words_of}
+pub use Rattle.script_lines.specs.Words.{is_blank, is_passed_over, plain_word, quoted_word, with_word}
 pub use Rattle.script_lines.specs.declared.fault.LineFault.{LineFault}
 pub use Rattle.script_lines.specs.declared.fault.ScriptFault.{ScriptFault}
 pub use Rattle.script_lines.specs.declared.fault.ScriptFault.TheVariants.{BadWord}
