@@ -7,5 +7,6 @@ abbrev pub invariant-loop-line : goal.invariant-loop-line
 invariant-loop-line g l = record {
   ranks : l.ranks.items ≡ map (λ line. line.rank) (take l.line-index l.order);
   marks : AreMarked (length (data_in (database_listed l.listed))) l.ranks.items l.marks;
-  fault : order_fault (data_in (database_listed l.listed)) [] l.order ≡ order_fault (data_in (database_listed l.listed)) l.ranks.items (drop l.line-index l.order);
+  fault : order_fault (data_in (database_listed l.listed)) [] l.order
+      ≡ order_fault (data_in (database_listed l.listed)) l.ranks.items (drop l.line-index l.order);
 }

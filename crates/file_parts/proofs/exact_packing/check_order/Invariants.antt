@@ -3,4 +3,5 @@ use Rattle.file_parts.proofs.AllWords.{◌≡◌, ◌<◌, ℕ, false, is_mispla
 use Rattle.file_parts.proofs.exact_packing.check_order.Given as goal
 
 abbrev pub invariant-loop-index : goal.invariant-loop-index
-invariant-loop-index l = (k : ℕ) → k < l.index → is_misplaced (exact_packed l.exact l.parts) k ≡ false
+invariant-loop-index l = (k : ℕ) → k < l.index
+    → is_misplaced (exact_packed l.exact l.parts) k ≡ false

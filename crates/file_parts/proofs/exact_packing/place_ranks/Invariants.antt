@@ -5,7 +5,10 @@ use Rattle.file_parts.proofs.exact_packing.place_ranks.Given as goal
 
 abbrev pub invariant-loop-index : goal.invariant-loop-index
 invariant-loop-index l = record {
-  placed : ArePlaced (exact_block (exact_packed l.exact l.parts)) (exact_start (exact_packed l.exact l.parts)) (length (data_in (database_listed l.exact.listed))) (take l.index l.exact.ranks.items) l.offsets l.at;
+  placed : ArePlaced (exact_block (exact_packed l.exact l.parts))
+      (exact_start (exact_packed l.exact l.parts))
+      (length (data_in (database_listed l.exact.listed)))
+      (take l.index l.exact.ranks.items) l.offsets l.at;
   room : length l.offsets ≡ length (data_in (database_listed l.exact.listed));
   most : l.at ≤ most_bytes;
 }

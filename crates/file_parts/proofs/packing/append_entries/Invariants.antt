@@ -5,7 +5,9 @@ use Rattle.file_parts.proofs.packing.append_entries.Given as goal
 
 abbrev pub invariant-loop-index : goal.invariant-loop-index
 invariant-loop-index g l = record {
-  text : l.bytes.items ++ entries_text l.at (drop l.index (packed_entries l.entries l.parts)) ≡ l.fn.bytes.items ++ entries_text l.first (packed_entries l.entries l.parts);
-  size : l.at + length (data_text (drop l.index (packed_entries l.entries l.parts))) ≡ l.first + length (data_text (packed_entries l.entries l.parts));
+  text : l.bytes.items ++ entries_text l.at (drop l.index (packed_entries l.entries l.parts))
+      ≡ l.fn.bytes.items ++ entries_text l.first (packed_entries l.entries l.parts);
+  size : l.at + length (data_text (drop l.index (packed_entries l.entries l.parts)))
+      ≡ l.first + length (data_text (packed_entries l.entries l.parts));
   most : l.at ≤ most_bytes;
 }

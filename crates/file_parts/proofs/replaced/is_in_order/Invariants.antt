@@ -3,4 +3,5 @@ use Rattle.file_parts.proofs.AllWords.{◌≡◌, ◌<◌, ℕ, false, is_mispla
 use Rattle.file_parts.proofs.replaced.is_in_order.Given as goal
 
 abbrev pub invariant-loop-index : goal.invariant-loop-index
-invariant-loop-index l = (k : ℕ) → k < l.index → is_misplaced (exact_replacing l.replacing) k ≡ false
+invariant-loop-index l = (k : ℕ) → k < l.index
+    → is_misplaced (exact_replacing l.replacing) k ≡ false

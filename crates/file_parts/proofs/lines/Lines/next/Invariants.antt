@@ -4,8 +4,10 @@ use Rattle.file_parts.proofs.lines.Lines.next.Given as goal
 
 abbrev pub invariant-loop-self : goal.invariant-loop-self
 invariant-loop-self l = record {
-  next : next_of l.fn.self.number l.fn.self.texts ≡ next_of l.self-inside.number (lines l.self-inside.rest.now);
-  count : l.self-inside.number + length (lines l.self-inside.rest.now) ≡ l.fn.self.number + length l.fn.self.texts;
+  next : next_of l.fn.self.number l.fn.self.texts
+      ≡ next_of l.self-inside.number (lines l.self-inside.rest.now);
+  count : l.self-inside.number + length (lines l.self-inside.rest.now)
+      ≡ l.fn.self.number + length l.fn.self.texts;
   within : l.self-inside.number + length l.self-inside.rest.now < 2 ^ 63;
 }
 

@@ -10,7 +10,8 @@ returns-clause-values c = c.header.ensures.values
 
 pub returns-clause-entry_count : goal.returns-clause-entry_count
 unfolding database_in
-returns-clause-entry_count c = c.header.ensures.is.entry_count ∙ length-entries_in c.args.self.now.unpacked.file ∙ sym (entry_count c.args.self.now)
+returns-clause-entry_count c = c.header.ensures.is.entry_count
+    ∙ length-entries_in c.args.self.now.unpacked.file ∙ sym (entry_count c.args.self.now)
 
 pub returns-clause-name : goal.returns-clause-name
 returns-clause-name c = file_name c.args.self.now.unpacked.file c.requires.good.good
