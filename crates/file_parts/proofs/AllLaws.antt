@@ -1,4 +1,4 @@
--- The lemmas of this crate that its functions cite, passed on from one place. Declares nothing.
+-- The lemmas of this crate that proofs of its functions cite, passed on from one place. Declares nothing.
 pub use Rattle.file_parts.proofs.EntryLines.{any_part, line_joined, part_joined}
 pub use Rattle.file_parts.proofs.ExactEntries.{all_lines, line_here, none_left, rest_lines}
 pub use Rattle.file_parts.proofs.ExactFolders.{packs_exactly}

@@ -24,7 +24,8 @@ name_good name is =
     let high : nat_lt (length name) 32 ≡ true = grind arith in
     rw (low, high) (positive name is.none_zero)
 
-split : (name : List ℕ) (a b c : Bool) → a ≡ nat_lt 0 (length name) → b ≡ nat_lt (length name) 32 → c ≡ list_all (nat_lt 0) name → a && b && c ≡ true → IsDatabaseName name
+split : (name : List ℕ) (a b c : Bool) → a ≡ nat_lt 0 (length name) → b ≡ nat_lt (length name) 32
+    → c ≡ list_all (nat_lt 0) name → a && b && c ≡ true → IsDatabaseName name
 split name true true true low high all h = record {
   some = let l = low in grind arith;
   room = let l = high in grind arith;
@@ -35,11 +36,14 @@ split name true false c low high all h = absurd cc
 split name false b c low high all h = absurd cc
 
 name_is : (name : List ℕ) → is_name name ≡ true → IsDatabaseName name
-name_is name h = split name (nat_lt 0 (length name)) (nat_lt (length name) 32) (list_all (nat_lt 0) name) refl refl refl h
+name_is name h = split name (nat_lt 0 (length name)) (nat_lt (length name) 32)
+    (list_all (nat_lt 0) name) refl refl refl h
 
 -- the name that was made of a text, if it is one
-pub name_tried : (made : Option (List ℕ)) (text bytes : List ℕ) → bytes ≡ text → SomeIff made (IsDatabaseName bytes) bytes → made ≡ name_if text
-name_tried (Some name) text bytes same is = rw (subst (λ (t : List ℕ). is_name t ≡ true) same (name_good bytes is.0)) (ap Some (is.1 ∙ same))
+pub name_tried : (made : Option (List ℕ)) (text bytes : List ℕ) → bytes ≡ text
+    → SomeIff made (IsDatabaseName bytes) bytes → made ≡ name_if text
+name_tried (Some name) text bytes same is =
+    rw (rw same at (name_good _ is.0)) (ap Some (is.1 ∙ same))
 name_tried None text bytes same none = by_name (is_name text) refl where
   by_name : (v : Bool) → is_name text ≡ v → None ≡ name_if text
   by_name true is = absurd (none (subst IsDatabaseName (sym same) (name_is text is)))

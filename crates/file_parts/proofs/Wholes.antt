@@ -3,10 +3,12 @@ use Rattle.file_parts.proofs.AllWords.{◌≡◌, ℕ, List, ◌++◌, None, get
 
 -- the lines after those of the header
 abbrev pub rest_of : List ℕ → List ℕ → List ℕ
-rest_of file ids =
-    (info_line (codes "app") (name_if_data app_name (get_or (blocks_in file) 0 None)) ++ info_line (codes "sort") (name_if_data sort_name (get_or (blocks_in file) 1 None)))
+rest_of file ids = (info_line (codes "app") (name_if_data app_name (get_or (blocks_in file) 0 None))
+    ++ info_line (codes "sort") (name_if_data sort_name (get_or (blocks_in file) 1 None)))
     ++ entry_lines (named_entries 0 (entries_read file ids))
 
-pub text_is : (file ids : List ℕ) (seed : ℕ) (header : DatabaseHeader) → header ≡ header_read file seed → header_lines header ++ rest_of file ids ≡ database_text (with_names (database_read file ids seed))
+pub text_is : (file ids : List ℕ) (seed : ℕ) (header : DatabaseHeader)
+    → header ≡ header_read file seed → header_lines header ++ rest_of file ids
+    ≡ database_text (with_names (database_read file ids seed))
 unfolding database_read database_text body_lines info_lines
 text_is file ids seed header is = ap (λ (h : DatabaseHeader). header_lines h ++ rest_of file ids) is

@@ -1,4 +1,5 @@
-use Rattle.file_parts.proofs.AllLaws.{◌<◌, ℕ, List, length, refl, sym, ap, ◌∙◌, arith, Database, ListedEntry, exact_placed, exact_packed, placed_count}
+-- `header_at` returns the bytes of the header with these offsets, by the laws of ExactPacked.
+use Rattle.file_parts.proofs.AllLaws.{◌<◌, ℕ, length, refl, sym, ap, ◌∙◌, arith, Database, exact_placed, exact_packed, placed_count}
 use Rattle.file_parts.proofs.exact_packing.header_at.Goals as goal
 
 pub returns : goal.returns
@@ -12,5 +13,5 @@ returns c = λ parts are.
       values = refl;
       app_info = are.each 0 first;
       sort_info = are.each 1 second;
-      entry_count = ap (λ (items : List ListedEntry). length items) c.as_slice.ensures.value ∙ sym (placed_count exact parts);
+      entry_count = ap length c.as_slice.ensures.value ∙ sym (placed_count exact parts);
     })

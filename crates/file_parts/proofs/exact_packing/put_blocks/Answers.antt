@@ -1,9 +1,10 @@
-use Rattle.file_parts.proofs.AllLaws.{◌≡◌, ◌+◌, ◌<◌, ◌≤◌, List, ℕ, Option, true, false, length, get_or, drop, refl, sym, ap, subst, ◌∙◌, arith, drop_all, data_in, block_bytes, Writes, then, stops, nothing, database_listed, ExactFile, exact_block, exact_packed, rank_inside, blocks_whole, blocks_of, rest_from}
+-- `put_blocks` writes the blocks in their order.
+use Rattle.file_parts.proofs.AllLaws.{◌≡◌, ◌+◌, ◌<◌, ◌≤◌, List, ℕ, Option, true, false, length, get_or, drop, refl, ap, ◌∙◌, arith, drop_all, data_in, block_bytes, then, stops, nothing, database_listed, ExactFile, exact_block, exact_packed, rank_inside, blocks_whole, blocks_of, rest_from}
 use Rattle.file_parts.proofs.exact_packing.put_blocks.Goals as goal
 
 pub loop-rank-init : goal.loop-rank-init
 loop-rank-init g c = λ new ok w.
-    subst (λ (text : List ℕ). Writes g.W.Write.contents c.args.out.now new text ok) (blocks_whole c.args.exact.now c.args.parts.now c.requires.good) w
+    rw (blocks_whole c.args.exact.now c.args.parts.now c.requires.good) at w
 
 pub block_of-requires-clause-inside : goal.block_of-requires-clause-inside
 block_of-requires-clause-inside g c =
@@ -14,7 +15,8 @@ block_of-requires-clause-inside g c =
     let ranks : List ℕ = c.as_slice-rank-items.result.now in
     let i = c.loop-rank.rank-index in
     let within : i < length ranks = omega arith in
-    let inside : get_or ranks i 0 < length blocks = rank_inside blocks exact.lines.order.items ranks i (get_or ranks i 0) good.order (c.as_slice-rank-items.ensures.value ∙ good.ranks) within refl in
+    let inside : get_or ranks i 0 < length blocks = rank_inside blocks exact.lines.order.items _ i
+    (get_or ranks i 0) good.order (c.as_slice-rank-items.ensures.value ∙ good.ranks) within refl in
     omega arith
 
 pub loop-rank-preserved : goal.loop-rank-preserved
@@ -24,13 +26,15 @@ loop-rank-preserved g c = λ new ok w.
     let ranks : List ℕ = exact.ranks.items in
     let i = c.loop-rank.rank-index in
     let same = c.as_slice-rank-items.ensures.value in
-    let long : length c.as_slice-rank-items.result.now ≡ length ranks = ap (λ (xs : List ℕ). length xs) same in
+    let long : length c.as_slice-rank-items.result.now ≡ length ranks = ap length same in
     let inside : i < length ranks = omega arith in
-    let bytes : c.block_of.result.now ≡ block_bytes (exact_block file (get_or ranks i 0)) = c.block_of.ensures ∙ ap (λ (xs : List ℕ). block_bytes (exact_block file (get_or xs i 0))) same in
+    let bytes : c.block_of.result.now ≡ block_bytes (exact_block file (get_or ranks i 0)) =
+    c.block_of.ensures
+    ∙ ap (λ (xs : List ℕ). block_bytes (exact_block file (get_or xs i 0))) same in
     c.loop-rank.invariant new ok
-    (subst (λ (xs : List ℕ). Writes g.W.Write.contents c.loop-rank.out new (blocks_of (exact_block file) xs) ok) (sym (rest_from ranks i inside))
-    (then g.W.Write.contents c.loop-rank.out c.put_all.new.out new (block_bytes (exact_block file (get_or ranks i 0))) (blocks_of (exact_block file) (drop (i + 1) ranks)) ok
-    (subst (λ (text : List ℕ). Writes g.W.Write.contents c.loop-rank.out c.put_all.new.out text true) bytes c.in-Ok.ensures) w))
+    (rw (rest_from ranks i inside)
+    (then g.W.Write.contents c.loop-rank.out c.put_all.new.out new _ _ ok
+    (rw bytes at c.in-Ok.ensures) w))
 
 pub returns-in-Err : goal.returns-in-Err
 returns-in-Err g c =
@@ -39,13 +43,14 @@ returns-in-Err g c =
     let ranks : List ℕ = exact.ranks.items in
     let i = c.loop-rank.rank-index in
     let same = c.as_slice-rank-items.ensures.value in
-    let long : length c.as_slice-rank-items.result.now ≡ length ranks = ap (λ (xs : List ℕ). length xs) same in
+    let long : length c.as_slice-rank-items.result.now ≡ length ranks = ap length same in
     let inside : i < length ranks = omega arith in
-    let bytes : c.block_of.result.now ≡ block_bytes (exact_block file (get_or ranks i 0)) = c.block_of.ensures ∙ ap (λ (xs : List ℕ). block_bytes (exact_block file (get_or xs i 0))) same in
+    let bytes : c.block_of.result.now ≡ block_bytes (exact_block file (get_or ranks i 0)) =
+    c.block_of.ensures
+    ∙ ap (λ (xs : List ℕ). block_bytes (exact_block file (get_or xs i 0))) same in
     c.loop-rank.invariant c.put_all.new.out false
-    (subst (λ (xs : List ℕ). Writes g.W.Write.contents c.loop-rank.out c.put_all.new.out (blocks_of (exact_block file) xs) false) (sym (rest_from ranks i inside))
-    (stops g.W.Write.contents c.loop-rank.out c.put_all.new.out (block_bytes (exact_block file (get_or ranks i 0))) (blocks_of (exact_block file) (drop (i + 1) ranks))
-    (subst (λ (text : List ℕ). Writes g.W.Write.contents c.loop-rank.out c.put_all.new.out text false) bytes c.in-Err.ensures)))
+    (rw (rest_from ranks i inside) (stops g.W.Write.contents c.loop-rank.out c.put_all.new.out _
+    (blocks_of (exact_block file) (drop (i + 1) ranks)) (rw bytes at c.in-Err.ensures)))
 
 pub returns : goal.returns
 returns g c =
@@ -53,7 +58,8 @@ returns g c =
     let file : ExactFile = exact_packed exact c.args.parts.now in
     let ranks : List ℕ = exact.ranks.items in
     let i = c.loop-rank.rank-index in
-    let long : length c.as_slice-rank-items.result.now ≡ length ranks = ap (λ (xs : List ℕ). length xs) c.as_slice-rank-items.ensures.value in
+    let long : length c.as_slice-rank-items.result.now ≡ length ranks =
+    ap length c.as_slice-rank-items.ensures.value in
     let past : length ranks ≤ i = omega arith in
     c.loop-rank.invariant c.loop-rank.out true
-    (subst (λ (xs : List ℕ). Writes g.W.Write.contents c.loop-rank.out c.loop-rank.out (blocks_of (exact_block file) xs) true) (sym (drop_all i ranks past)) (nothing g.W.Write.contents c.loop-rank.out))
+    (rw (drop_all i ranks past) (nothing g.W.Write.contents c.loop-rank.out))

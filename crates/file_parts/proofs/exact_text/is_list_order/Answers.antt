@@ -1,3 +1,4 @@
+-- `is_list_order` returns whether ranks are in list order, by the laws of ExactRising.
 use Rattle.file_parts.proofs.AllWords.{ℕ, suc, List, inl, inr, sym, ◌∙◌, arith, cases_lt}
 use Rattle.file_parts.proofs.ExactRising.{lower_breaks, not_lower, rising_all}
 use Rattle.file_parts.proofs.exact_text.is_list_order.Goals as goal
@@ -12,7 +13,8 @@ loop-index-preserved c = λ k less.
     ]
 
 pub returns-then-is_lower : goal.returns-then-is_lower
-returns-then-is_lower c = sym (lower_breaks c.args.ranks.now c.loop-index.index (omega arith) (omega arith) (sym c.is_lower.ensures ∙ c.if-is_lower.true))
+returns-then-is_lower c = sym (lower_breaks c.args.ranks.now c.loop-index.index (omega arith)
+    (omega arith) (sym c.is_lower.ensures ∙ c.if-is_lower.true))
 
 pub returns : goal.returns
 returns c = sym (rising_all c.args.ranks.now (λ k inside. c.loop-index.invariant k (omega arith)))

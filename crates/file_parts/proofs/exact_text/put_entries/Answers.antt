@@ -1,4 +1,5 @@
-use Rattle.file_parts.proofs.AllLaws.{◌+◌, ◌<◌, ◌≤◌, List, ℕ, true, false, sym, subst, arith, entry_count_in, Writes, then, stops, nothing, exact_entry_line, rest_lines, all_lines, line_here, none_left}
+-- `put_entries` writes the lines of all entries, by the laws of ExactEntries.
+use Rattle.file_parts.proofs.AllLaws.{◌+◌, ◌<◌, ◌≤◌, true, false, arith, entry_count_in, then, stops, nothing, rest_lines, all_lines, line_here, none_left}
 use Rattle.file_parts.proofs.exact_text.put_entries.Goals as goal
 
 pub loop-index-preserved : goal.loop-index-preserved
@@ -7,24 +8,23 @@ loop-index-preserved g c = λ new ok w.
     let i = c.loop-index.index in
     let inside : i < entry_count_in file = omega arith in
     c.loop-index.invariant new ok
-    (subst (λ (text : List ℕ). Writes g.W.Write.contents c.loop-index.out new text ok) (sym (line_here file i inside))
-    (then g.W.Write.contents c.loop-index.out c.put_entry.new.out new (exact_entry_line file i) (rest_lines file (i + 1)) ok c.in-Ok.ensures w))
+    (rw (line_here file i inside)
+    (then g.W.Write.contents c.loop-index.out c.put_entry.new.out new _ _ ok c.in-Ok.ensures w))
 
 pub returns-in-Err : goal.returns-in-Err
 returns-in-Err g c =
     let file = c.args.file.now in
     let i = c.loop-index.index in
     let inside : i < entry_count_in file = omega arith in
-    subst (λ (text : List ℕ). Writes g.W.Write.contents c.args.out.now c.put_entry.new.out text false) (all_lines file)
-    (c.loop-index.invariant c.put_entry.new.out false
-    (subst (λ (text : List ℕ). Writes g.W.Write.contents c.loop-index.out c.put_entry.new.out text false) (sym (line_here file i inside))
-    (stops g.W.Write.contents c.loop-index.out c.put_entry.new.out (exact_entry_line file i) (rest_lines file (i + 1)) c.in-Err.ensures)))
+    rw (all_lines file) at (c.loop-index.invariant c.put_entry.new.out false
+    (rw (line_here file i inside) (stops g.W.Write.contents c.loop-index.out c.put_entry.new.out _
+    (rest_lines file (i + 1)) c.in-Err.ensures)))
 
 pub returns : goal.returns
 returns g c =
     let file = c.args.file.now in
     let i = c.loop-index.index in
     let past : entry_count_in file ≤ i = omega arith in
-    subst (λ (text : List ℕ). Writes g.W.Write.contents c.args.out.now c.loop-index.out text true) (all_lines file)
+    rw (all_lines file) at
     (c.loop-index.invariant c.loop-index.out true
-    (subst (λ (text : List ℕ). Writes g.W.Write.contents c.loop-index.out c.loop-index.out text true) (sym (none_left file i past)) (nothing g.W.Write.contents c.loop-index.out)))
+    (rw (none_left file i past) (nothing g.W.Write.contents c.loop-index.out)))

@@ -1,6 +1,8 @@
+-- The loop of `put_entries` keeps its invariant: what is written from here on completes the lines.
 use Rattle.file_parts.proofs.AllLaws.{Bool, Writing, Writes, rest_lines}
 use Rattle.file_parts.proofs.exact_text.put_entries.Given as goal
 
--- whatever is written from here on completes the lines
 abbrev pub invariant-loop-index : goal.invariant-loop-index
-invariant-loop-index g l = (new : Writing g.row.W.Denot) (ok : Bool) → Writes g.W.Write.contents l.out new (rest_lines l.file l.index) ok → Writes g.W.Write.contents l.fn.out new (rest_lines l.file 0) ok
+invariant-loop-index g l = (new : Writing g.row.W.Denot) (ok : Bool)
+    → Writes g.W.Write.contents l.out new (rest_lines l.file l.index) ok
+    → Writes g.W.Write.contents l.fn.out new (rest_lines l.file 0) ok

@@ -1,4 +1,5 @@
-use Rattle.file_parts.proofs.AllLaws.{List, ℕ, Option, false, sym, ap, ◌∙◌, subst, is_ok, Entry, entry_data, entry_in, entry_with, Writes, then, stops, entry_of, bytes_at, entry_name, entry_values, name_if_data, part_text, exact_entry, line_joined, with_twice, data_with}
+-- `put_entry` writes the line of the entry at an index, by the laws of EntryLines and ExactHeads.
+use Rattle.file_parts.proofs.AllLaws.{List, ℕ, Option, sym, ap, ◌∙◌, is_ok, Entry, entry_data, entry_in, entry_with, then, stops, entry_of, bytes_at, entry_name, name_if_data, part_text, exact_entry, line_joined, with_twice, data_with}
 use Rattle.file_parts.proofs.exact_text.put_entry.Goals as goal
 
 pub returns-in-Err : goal.returns-in-Err
@@ -9,9 +10,10 @@ returns-in-Err g c =
     let e : Entry (Option (List ℕ)) = exact_entry file i in
     let block : Option (List ℕ) = bytes_at file c.block-block.result in
     let is_block = c.block-block.ensures.is ∙ sym (data_with (entry_in file i) _) in
-    subst (λ (text : List ℕ). Writes g.W.Write.contents c.args.out.now c.put_values.new.out text false)
-    (line_joined name e (entry_of c.entry.result) block (λ part. ap (entry_with {Data = ℕ} (λ _. part)) c.entry.ensures.is ∙ with_twice (entry_in file i) _ part) is_block)
-    (stops g.W.Write.contents c.args.out.now c.put_values.new.out (entry_values (entry_with (λ _. name_if_data name (entry_data e)) (entry_of c.entry.result))) (part_text (name_if_data name block)) (c.in-Err.ensures (name_if_data name (entry_data e))))
+    rw (line_joined name e (entry_of c.entry.result) block (λ part. ap (entry_with {Data = ℕ} (λ _.
+    part)) c.entry.ensures.is ∙ with_twice (entry_in file i) _ part) is_block) at
+    (stops g.W.Write.contents c.args.out.now c.put_values.new.out _
+    (part_text (name_if_data name block)) (c.in-Err.ensures (name_if_data name (entry_data e))))
 
 pub returns-in-Ok : goal.returns-in-Ok
 returns-in-Ok g c =
@@ -21,6 +23,8 @@ returns-in-Ok g c =
     let e : Entry (Option (List ℕ)) = exact_entry file i in
     let block : Option (List ℕ) = bytes_at file c.block-block.result in
     let is_block = c.block-block.ensures.is ∙ sym (data_with (entry_in file i) _) in
-    subst (λ (text : List ℕ). Writes g.W.Write.contents c.args.out.now c.put_part.new.out text (is_ok c.put_part.result))
-    (line_joined name e (entry_of c.entry.result) block (λ part. ap (entry_with {Data = ℕ} (λ _. part)) c.entry.ensures.is ∙ with_twice (entry_in file i) _ part) is_block)
-    (then g.W.Write.contents c.args.out.now c.put_values.new.out c.put_part.new.out (entry_values (entry_with (λ _. name_if_data name (entry_data e)) (entry_of c.entry.result))) (part_text (name_if_data name block)) (is_ok c.put_part.result) (c.in-Ok.ensures (name_if_data name (entry_data e))) (c.put_part.ensures file))
+    rw (line_joined name e (entry_of c.entry.result) block (λ part. ap (entry_with {Data = ℕ} (λ _.
+    part)) c.entry.ensures.is ∙ with_twice (entry_in file i) _ part) is_block) at
+    (then g.W.Write.contents c.args.out.now c.put_values.new.out c.put_part.new.out _ _
+    (is_ok c.put_part.result) (c.in-Ok.ensures (name_if_data name (entry_data e)))
+    (c.put_part.ensures file))

@@ -1,4 +1,5 @@
-use Rattle.file_parts.proofs.AllLaws.{◌≤◌, List, ℕ, length, sym, subst, most_bytes, exact_in, packs_exactly, is_exactly}
+-- `unpack_exact` takes a file apart as it stands, by the laws of ExactFolders and ExactRead.
+use Rattle.file_parts.proofs.AllLaws.{◌≤◌, List, ℕ, length, sym, subst, most_bytes, packs_exactly, is_exactly}
 use Rattle.file_parts.proofs.exact_unpacked.unpack_exact.Goals as goal
 
 pub returns-in-Ok-ranks_in-clause-done : goal.returns-in-Ok-ranks_in-clause-done
@@ -9,8 +10,9 @@ returns-in-Ok-ranks_in-clause-done g c = record {
 }
 
 pub returns-in-Ok-ranks_in-clause-exactly : goal.returns-in-Ok-ranks_in-clause-exactly
-returns-in-Ok-ranks_in-clause-exactly g c = is_exactly c.in-Ok.file c.in-Ok-ranks_in.ranks.items c.know_file.ensures.good c.in-Ok-ranks_in.ensures.order
+returns-in-Ok-ranks_in-clause-exactly g c =
+    is_exactly c.in-Ok.file _ c.know_file.ensures.good c.in-Ok-ranks_in.ensures.order
 
 pub returns-in-Ok-ranks_in-clause-packs : goal.returns-in-Ok-ranks_in-clause-packs
 returns-in-Ok-ranks_in-clause-packs g c =
-    packs_exactly c.in-Ok.file (exact_in c.in-Ok.file c.in-Ok-ranks_in.ranks.items) c.know_file.ensures.numbers (returns-in-Ok-ranks_in-clause-exactly g c)
+    packs_exactly _ _ c.know_file.ensures.numbers (returns-in-Ok-ranks_in-clause-exactly g c)

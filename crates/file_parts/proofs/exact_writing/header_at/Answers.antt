@@ -1,3 +1,4 @@
+-- `header_at` returns the bytes of the header with these offsets, by the laws of ExactWritten.
 use Rattle.file_parts.proofs.AllWords.{◌<◌, ℕ, length, sym, ◌∙◌, arith, Database, ExactFile, exact_placed}
 use Rattle.file_parts.proofs.ExactWritten.{placed_count}
 use Rattle.file_parts.proofs.exact_writing.header_at.Goals as goal

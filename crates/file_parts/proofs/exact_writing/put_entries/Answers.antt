@@ -1,4 +1,5 @@
-use Rattle.file_parts.proofs.AllLaws.{◌≡◌, ◌+◌, ◌<◌, ◌≤◌, List, ℕ, true, false, drop, length, get_or, Option, sym, subst, ◌∙◌, arith, length-map, flat_map, Entry, entry_bytes, entry_data, entry_of, Writes, then, stops, nothing, ExactFile, exact_placed, entries_from, entries_none}
+-- `put_entries` writes the entries, by the laws of ExactWritten.
+use Rattle.file_parts.proofs.AllLaws.{◌≡◌, ◌+◌, ◌<◌, ◌≤◌, List, ℕ, true, false, drop, length, get_or, Option, ◌∙◌, arith, length-map, flat_map, Entry, entry_bytes, entry_data, entry_of, then, stops, nothing, ExactFile, exact_placed, entries_from, entries_none}
 use Rattle.file_parts.proofs.exact_writing.put_entries.Goals as goal
 
 pub bounds-offsets-index : goal.bounds-offsets-index
@@ -20,11 +21,12 @@ loop-index-preserved g c = λ new ok w.
     let blocks = length-map file.database.entries (entry_data {Data = Option (List ℕ)}) in
     let less : 2 + i < length c.args.offsets.now = omega arith in
     let placed : Entry ℕ = entry_of c.entry_at-entry.result in
-    let bytes : c.as_slice.result.now ≡ entry_bytes placed = c.as_slice.ensures ∙ c.to_bytes.ensures.is in
-    c.loop-index.invariant new ok
-    (subst (λ (text : List ℕ). Writes g.W.Write.contents c.loop-index.out new text ok) (sym (entries_from file i (get_or c.args.offsets.now (2 + i) 0) (entry_of c.entry.result) placed inside c.entry.ensures.is (c.requires.are.each (2 + i) less) c.entry_at-entry.ensures.is))
-    (then g.W.Write.contents c.loop-index.out c.put_all.new.out new (entry_bytes placed) (flat_map entry_bytes (drop (i + 1) es)) ok
-    (subst (λ (text : List ℕ). Writes g.W.Write.contents c.loop-index.out c.put_all.new.out text true) bytes c.in-Ok.ensures) w))
+    let bytes : c.as_slice.result.now ≡ entry_bytes placed =
+    c.as_slice.ensures ∙ c.to_bytes.ensures.is in
+    c.loop-index.invariant new ok (rw (entries_from file i (get_or c.args.offsets.now (2 + i) 0)
+    (entry_of c.entry.result) placed inside c.entry.ensures.is
+    (c.requires.are.each (2 + i) less) c.entry_at-entry.ensures.is) (then g.W.Write.contents
+    c.loop-index.out c.put_all.new.out new _ _ ok (rw bytes at c.in-Ok.ensures) w))
 
 pub returns-in-Err : goal.returns-in-Err
 returns-in-Err g c =
@@ -37,11 +39,13 @@ returns-in-Err g c =
     let blocks = length-map file.database.entries (entry_data {Data = Option (List ℕ)}) in
     let less : 2 + i < length c.args.offsets.now = omega arith in
     let placed : Entry ℕ = entry_of c.entry_at-entry.result in
-    let bytes : c.as_slice.result.now ≡ entry_bytes placed = c.as_slice.ensures ∙ c.to_bytes.ensures.is in
+    let bytes : c.as_slice.result.now ≡ entry_bytes placed =
+    c.as_slice.ensures ∙ c.to_bytes.ensures.is in
     c.loop-index.invariant c.put_all.new.out false
-    (subst (λ (text : List ℕ). Writes g.W.Write.contents c.loop-index.out c.put_all.new.out text false) (sym (entries_from file i (get_or c.args.offsets.now (2 + i) 0) (entry_of c.entry.result) placed inside c.entry.ensures.is (c.requires.are.each (2 + i) less) c.entry_at-entry.ensures.is))
-    (stops g.W.Write.contents c.loop-index.out c.put_all.new.out (entry_bytes placed) (flat_map entry_bytes (drop (i + 1) es))
-    (subst (λ (text : List ℕ). Writes g.W.Write.contents c.loop-index.out c.put_all.new.out text false) bytes c.in-Err.ensures)))
+    (rw (entries_from file i (get_or c.args.offsets.now (2 + i) 0) (entry_of c.entry.result) placed
+    inside c.entry.ensures.is (c.requires.are.each (2 + i) less) c.entry_at-entry.ensures.is)
+    (stops g.W.Write.contents c.loop-index.out c.put_all.new.out _
+    (flat_map entry_bytes (drop (i + 1) es)) (rw bytes at c.in-Err.ensures)))
 
 pub returns : goal.returns
 returns g c =
@@ -50,4 +54,4 @@ returns g c =
     let many = c.header-index-end.ensures.entry_count in
     let past : length file.database.entries ≤ i = omega arith in
     c.loop-index.invariant c.loop-index.out true
-    (subst (λ (text : List ℕ). Writes g.W.Write.contents c.loop-index.out c.loop-index.out text true) (sym (entries_none file i past)) (nothing g.W.Write.contents c.loop-index.out))
+    (rw (entries_none file i past) (nothing g.W.Write.contents c.loop-index.out))

@@ -1,9 +1,9 @@
-use Rattle.file_parts.proofs.AllWords.{◌<◌, ℕ, List, length, get_or, sym, subst, data_in}
+-- `rank_at` returns the rank at an index of the order, by the laws of ExactWritten.
 use Rattle.file_parts.proofs.ExactWritten.{rank_inside}
 use Rattle.file_parts.proofs.exact_writing.rank_at.Goals as goal
 
 pub returns-clause-there : goal.returns-clause-there
 returns-clause-there g c =
     let file = g.S.ExactSource.exact c.args.source.now in
-    subst (λ (xs : List ℕ). get_or xs c.args.index 0 < length (data_in file.database)) (sym c.ranks-ranks.ensures.are)
+    rw c.ranks-ranks.ensures.are
     (rank_inside file c.args.index c.ranks-ranks.ensures.ordered c.requires.inside)

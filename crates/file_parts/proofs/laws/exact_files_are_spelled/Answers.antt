@@ -1,3 +1,4 @@
+-- `exact_files_are_spelled` states that a file without fault is the bytes of what it is exactly.
 use Rattle.file_parts.proofs.ExactSpelled.{bytes_are, size_is, placed_well}
 use Rattle.file_parts.proofs.laws.exact_files_are_spelled.Goals as goal
 

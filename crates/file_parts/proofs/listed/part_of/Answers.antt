@@ -1,3 +1,4 @@
+-- `part_of` returns the part of an entry, by the laws of ListedEntries.
 use Rattle.std.proofs.Common.{sym}
 use Rattle.file_parts.proofs.ListedEntries.{data_listed}
 use Rattle.file_parts.proofs.listed.part_of.Goals as goal

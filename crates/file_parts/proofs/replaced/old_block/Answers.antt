@@ -1,3 +1,5 @@
+-- `old_block` returns the bytes of the block of a rank in a file, and none if the file doesn't have
+-- the block.
 use Rattle.file_parts.proofs.AllWords.{arith, block_count}
 use Rattle.file_parts.proofs.replaced.old_block.Goals as goal
 

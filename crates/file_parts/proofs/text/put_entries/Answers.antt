@@ -1,4 +1,5 @@
-use Rattle.file_parts.proofs.AllWords.{◌+◌, ◌<◌, ◌≤◌, List, ℕ, true, false, sym, subst, arith, entry_count_in, Writes, then, stops, nothing, line_at}
+-- `put_entries` writes the lines of all entries, by the laws of EntryLines.
+use Rattle.file_parts.proofs.AllWords.{◌+◌, ◌<◌, ◌≤◌, true, false, arith, entry_count_in, then, stops, nothing}
 use Rattle.file_parts.proofs.EntryLines.{rest_lines, line_here, none_left}
 use Rattle.file_parts.proofs.text.put_entries.Goals as goal
 
@@ -9,8 +10,8 @@ loop-index-preserved g c = λ new ok w.
     let i = c.loop-index.index in
     let inside : i < entry_count_in file = omega arith in
     c.loop-index.invariant new ok
-    (subst (λ (text : List ℕ). Writes g.W.Write.contents c.loop-index.out new text ok) (sym (line_here file ids i inside))
-    (then g.W.Write.contents c.loop-index.out c.put_entry.new.out new (line_at file ids i) (rest_lines file ids (i + 1)) ok c.in-Ok.ensures w))
+    (rw (line_here file ids i inside)
+    (then g.W.Write.contents c.loop-index.out c.put_entry.new.out new _ _ ok c.in-Ok.ensures w))
 
 pub returns-in-Err : goal.returns-in-Err
 returns-in-Err g c =
@@ -19,8 +20,8 @@ returns-in-Err g c =
     let i = c.loop-index.index in
     let inside : i < entry_count_in file = omega arith in
     c.loop-index.invariant c.put_entry.new.out false
-    (subst (λ (text : List ℕ). Writes g.W.Write.contents c.loop-index.out c.put_entry.new.out text false) (sym (line_here file ids i inside))
-    (stops g.W.Write.contents c.loop-index.out c.put_entry.new.out (line_at file ids i) (rest_lines file ids (i + 1)) c.in-Err.ensures))
+    (rw (line_here file ids i inside) (stops g.W.Write.contents c.loop-index.out c.put_entry.new.out
+    _ (rest_lines file ids (i + 1)) c.in-Err.ensures))
 
 pub returns : goal.returns
 returns g c =
@@ -29,4 +30,4 @@ returns g c =
     let i = c.loop-index.index in
     let past : entry_count_in file ≤ i = omega arith in
     c.loop-index.invariant c.loop-index.out true
-    (subst (λ (text : List ℕ). Writes g.W.Write.contents c.loop-index.out c.loop-index.out text true) (sym (none_left file ids i past)) (nothing g.W.Write.contents c.loop-index.out))
+    (rw (none_left file ids i past) (nothing g.W.Write.contents c.loop-index.out))

@@ -1,3 +1,4 @@
+-- `part_of` returns the part of a rank, by the contracts of its calls.
 use Rattle.file_parts.proofs.AllWords.{arith, sym, ap, ◌∙◌, bytes_at, block_count}
 use Rattle.file_parts.proofs.unpacked.part_of.Goals as goal
 

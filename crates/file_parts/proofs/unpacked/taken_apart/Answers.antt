@@ -1,3 +1,4 @@
+-- `taken_apart` takes a file that is opened apart, by the laws of PackedBack.
 use Rattle.pdb_format.proofs.FileIds.{ids_for}
 use Rattle.pdb_format.proofs.ReadFiles.{reads}
 use Rattle.file_parts.proofs.PackedBack.{packs_back}
@@ -14,7 +15,9 @@ returns-in-Ok-clause-done g c = record {
 }
 
 pub returns-in-Ok-clause-reads : goal.returns-in-Ok-clause-reads
-returns-in-Ok-clause-reads g c = reads c.args.file c.in-Ok.given.ids.items c.in-Ok.given.seed c.know_file.ensures.good c.in-Ok.ensures.given
+returns-in-Ok-clause-reads g c = reads c.args.file c.in-Ok.given.ids.items c.in-Ok.given.seed
+    c.know_file.ensures.good c.in-Ok.ensures.given
 
 pub returns-in-Ok-clause-packs : goal.returns-in-Ok-clause-packs
-returns-in-Ok-clause-packs g c = packs_back (record { file = c.args.file; given = c.in-Ok.given }) _ c.know_file.ensures.places c.know_file.ensures.numbers (returns-in-Ok-clause-done g c) c.in-Ok.ensures.distinct
+returns-in-Ok-clause-packs g c = packs_back _ _ c.know_file.ensures.places
+    c.know_file.ensures.numbers (returns-in-Ok-clause-done g c) c.in-Ok.ensures.distinct

@@ -1,3 +1,4 @@
+-- `block` of `KeepingExactSource` meets its contract, by the laws of KeptSources.
 use Rattle.file_parts.proofs.AllWords.{ap, sym, ◌∙◌, arith, block_bytes}
 use Rattle.file_parts.proofs.KeptSources.{block_is, count_is}
 use Rattle.file_parts.proofs.kept.KeepingExactSource.block.Goals as goal

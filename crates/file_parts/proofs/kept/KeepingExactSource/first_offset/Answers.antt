@@ -1,3 +1,4 @@
+-- `first_offset` of `KeepingExactSource` meets its contract, by the laws of KeptSources.
 use Rattle.std.proofs.Common.{◌+◌, ℕ, length, sym, ap, ◌∙◌, arith}
 use Rattle.file_parts.proofs.KeptSources.{fits, start_is}
 use Rattle.file_parts.proofs.kept.KeepingExactSource.first_offset.Goals as goal

@@ -1,3 +1,4 @@
+-- `size` returns the size of the file in bytes, by the laws of ReplacedSound.
 use Rattle.file_parts.proofs.AllWords.{◌≤◌, ◌∙◌, arith, most_bytes, exact_size, exact_replacing}
 use Rattle.file_parts.proofs.ReplacedSound.{size_is}
 use Rattle.file_parts.proofs.replaced.Replaced.size.Goals as goal

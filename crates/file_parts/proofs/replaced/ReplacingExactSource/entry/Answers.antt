@@ -1,3 +1,4 @@
+-- `entry` of `ReplacingExactSource` meets its contract, by the laws of ReplacedFiles.
 use Rattle.std.proofs.Common.{arith}
 use Rattle.file_parts.proofs.ReplacedFiles.{entry_count, values_at}
 use Rattle.file_parts.proofs.replaced.ReplacingExactSource.entry.Goals as goal

@@ -1,3 +1,4 @@
+-- `first_offset` of `ReplacingExactSource` meets its contract, by the laws of ReplacedFiles.
 use Rattle.file_parts.proofs.AllWords.{◌+◌, List, ℕ, length, sym, ap, ◌∙◌, entries_end}
 use Rattle.file_parts.proofs.ReplacedFiles.{start_is}
 use Rattle.file_parts.proofs.replaced.ReplacingExactSource.first_offset.Goals as goal

@@ -1,3 +1,4 @@
+-- `name_field` of `ReplacingExactSource` meets its contract, by the laws of ReplacedFiles.
 use Rattle.file_parts.proofs.AllLaws.{◌≤◌, List, ℕ, length, sym, ap, subst, ◌∙◌, take, arith, not_truncated, exactly_in}
 use Rattle.file_parts.proofs.replaced.ReplacingExactSource.name_field.Goals as goal
 
@@ -9,4 +10,5 @@ copied_name-requires c =
     subst (λ (xs : List ℕ). 32 ≤ length xs) (sym c.bytes.ensures.bytes) whole
 
 pub returns : goal.returns
-returns c = c.copied_name.ensures ∙ ap (take 32) c.bytes.ensures.bytes ∙ sym (exactly_in c.args.self.now c.requires).name_field
+returns c = c.copied_name.ensures ∙ ap (take 32) c.bytes.ensures.bytes
+    ∙ sym (exactly_in _ c.requires).name_field

@@ -1,3 +1,4 @@
+-- `rank_count` of `ReplacingExactSource` meets its contract, by the laws of ReplacedFiles.
 use Rattle.std.proofs.Common.{sym, ◌∙◌}
 use Rattle.file_parts.proofs.ReplacedFiles.{count_is}
 use Rattle.file_parts.proofs.replaced.ReplacingExactSource.rank_count.Goals as goal

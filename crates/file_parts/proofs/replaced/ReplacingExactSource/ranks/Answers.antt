@@ -1,3 +1,4 @@
+-- `ranks` of `ReplacingExactSource` meets its contract, by the laws of ReplacedFiles.
 use Rattle.file_parts.proofs.ReplacedFiles.{ordered_in}
 use Rattle.file_parts.proofs.replaced.ReplacingExactSource.ranks.Goals as goal
 
