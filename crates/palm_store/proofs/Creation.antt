@@ -1,14 +1,21 @@
 -- A database that was made: its header is written into the chunk that was listed last.
-use Rattle.palm_store.proofs.Words.{◌≡◌, ◌≢◌, ℕ, ◌+◌, ◌^◌, ◌<◌, ◌≤◌, Bool, true, false, List, [], ◌∷◌, ◌++◌, length, get_or, replicate, Option, Some, None, refl, sym, ap, subst, ◌∙◌, arith, length-append, inl, inr, both_ways, cases_eq, append-nil, map-append, get_or-map, length-map, All-nil, IsTrue, ◌⊎◌, if◌then◌else◌, All, filter_map, flat_map, Memory, KeepsLoan, u32_bytes, header_size, HeapAccepted, directory_of, LiveChunk, chunks_of, held, free_slots, rooms, same, times, u32s_in, Distinct, not_owned, callers_map, put, Leaves, Stuck, Entry, Database, data_in, header_bytes, entry_bytes, spelled, has_resources, IsDatabaseName, EntryFits, DatabaseFits, StoredDatabase, owner_under, directory_bytes, listed, databases, names_of, most_databases, unique_id, unique_ids, HasUniqueIds, Accepted, store_of, NamesData, IsTaken, empty_database, create_parts, create_slots, DoesInStore, Db, Refusal, NotEnoughSpace, InvalidName, AlreadyExists, TooManyEntries, Create, length-u32_bytes, read_heap, callers_managers, as_before, Appends, same-yes, same-no, times-cons, owned_slot, directory_owner, owned_some, has_databases, listed_numbers, length-numbers, get-any, directory_like, number_owner, managers_loose, u32s_push, refused, create_steps, ListsNew, all_written}
+use Rattle.palm_store.proofs.Words.{◌≡◌, ◌≢◌, ℕ, ◌+◌, ◌^◌, ◌<◌, ◌≤◌, Bool, true, false, List, [], ◌∷◌, ◌++◌, length, get_or, replicate, Option, Some, None, refl, sym, ap, subst, ◌∙◌, arith, length-append, inl, inr, both_ways, cases_eq, append-nil, map-append, get_or-map, length-map, All-nil, IsTrue, ◌⊎◌, if◌then◌else◌, All, filter_map, flat_map, Memory, KeepsLoan, u32_bytes, header_size, HeapAccepted, directory_of, LiveChunk, chunks_of, held, free_slots, rooms, same, times, u32s_in, Distinct, not_owned, callers_map, put, Leaves, Stuck, Entry, Database, data_in, header_bytes, entry_bytes, spelled, has_resources, IsDatabaseName, EntryFits, DatabaseFits, StoredDatabase, owner_under, directory_bytes, listed, databases, names_of, most_databases, unique_id, unique_ids, HasUniqueIds, Accepted, store_of, NamesData, IsTaken, empty_database, create_parts, create_slots, DoesInStore, Db, Refusal, NotEnoughSpace, InvalidName, AlreadyExists, TooManyEntries, Create, length-u32_bytes, read_heap, callers_managers, hidden, as_before, Appends, same-yes, same-no, times-cons, owned_slot, directory_owner, owned_some, has_databases, listed_numbers, length-numbers, get-any, directory_like, number_owner, managers_loose, none_some, u32s_push, refused, create_steps, ListsNew, all_written}
+use Rattle.std.proofs.lemmas.Bool.Decides.{nat_tests}
 use Rattle.std.proofs.lemmas.List.Quantifiers.{all_pairs_push}
 use Rattle.heap_model.specs.declared.call.Call.TheVariants as calls
 use Rattle.heap_model.specs.declared.call.Reply.TheVariants as replies
 use Rattle.laws_heap.proofs.Slots.{slot_facts}
 use Rattle.laws_store.proofs.ChangeSteps.{same_steps}
+use Rattle.palm_store.proofs.DataChunks.{name_some}
 use Rattle.palm_store.proofs.Maps.{owner_held, owner_none, owner_alike, bytes_held, owned, held_some, still_through}
 use Rattle.palm_store.proofs.ListedSlots.{chunk_of, put_here, put_apart, lock_of}
 
--- ---- the header is written
+-- the directory has no lock
+pub directory_unlocked : (image : List ℕ) (name : ℕ) (live : LiveChunk) → HeapAccepted image → held image name ≡ Some live → name ≡ directory_of image → live.lock ≡ 0
+directory_unlocked image name live h e is =
+    let some = name_some image name live h e in
+    let o = owned image name 0 (ap (owner_under image) is ∙ directory_owner image h (omega arith)) (omega arith) in
+    lock_of image name o.live live o.there (managers_loose image name o.live h o.there o.own) e
 
 pub header_put : (old mid new : List ℕ) (slot : ℕ) (bytes : List ℕ) → HeapAccepted old → ListsNew old mid slot (replicate header_size 0) → Leaves mid new (put (held mid) slot 0 bytes) → length bytes ≡ 78 → ListsNew old new slot bytes
 header_put old mid new slot bytes h l w long =
@@ -19,10 +26,10 @@ header_put old mid new slot bytes h l w long =
       accepted = w.frame.accepted;
       len = w.frame.len ∙ l.len;
       tables = w.frame.tables ∙ l.tables;
-      still = still_through old mid new l.still w.still (λ name live e locked. l.others name (λ same_slot. fresh_there (held old name) live e (ap (held old) same_slot ∙ l.fresh))
+      still = still_through old mid new l.still w.still (λ name live e locked. l.others name (λ same_slot. none_some (held old name) live (ap (held old) same_slot ∙ l.fresh) e)
           (λ directory. elim l.directory [
-            | inl stays ↦ (let was : name ≡ directory_of old = directory ∙ stays in let some = l.some in absurd (loose_directory name live e locked was (omega arith)))
-            | inr begins ↦ absurd (fresh_there (held old name) live e (ap (held old) directory ∙ begins.1))
+            | inl stays ↦ (let loose = directory_unlocked old name live h e (directory ∙ stays) in absurd (omega arith))
+            | inr begins ↦ none_some (held old name) live (ap (held old) directory ∙ begins.1) e
           ]) ∙ e);
       some = let some = l.some in omega arith;
       directory = elim l.directory [ inl stays ↦ inl (word ∙ stays) | inr begins ↦ inr (begins.0, ap (held old) word ∙ begins.1) ];
@@ -31,12 +38,7 @@ header_put old mid new slot bytes h l w long =
       apart = λ e. l.apart (e ∙ word);
       chunk = put_here mid new slot 0 bytes (chunk_of (replicate header_size 0)) w l.chunk ∙ ap (λ (xs : List ℕ). Some (chunk_of xs)) (all_written (replicate 78 0) bytes long);
       others = λ name ne other. kept name ne ∙ l.others name ne (λ e. other (e ∙ sym word));
-    } where
-      fresh_there : (o : Option LiveChunk) (live : LiveChunk) → o ≡ Some live → o ≡ None → ⊥
-      fresh_there o live e f = cc
-
-      loose_directory : (name : ℕ) (live : LiveChunk) → held old name ≡ Some live → 0 < live.lock → name ≡ directory_of old → 0 < directory_of old → ⊥
-      loose_directory name live e locked is some = let o = owned old name 0 (ap (owner_under old) is ∙ directory_owner old h some) (omega arith) in let none = lock_of old name o.live live o.there (managers_loose old name o.live h o.there o.own) e in omega arith
+    }
 
 -- ---- what was found of a name
 
@@ -58,9 +60,8 @@ pub names_apart : (image name : List ℕ) → Accepted image → (IsTaken (store
 unfolding store_of
 names_apart image name a free k d inside e =
     let one : StoredDatabase = get_or (databases image) k d in
-    let own = number_owner image (databases image) k d (has_databases image a) inside in
-    let some = owned_some image one.db 0 a.heap own (omega arith) in
-    free (k, one, inside, get-any (databases image) k one d inside, (λ z. (let low = some in omega arith), e))
+    let some = owned_some image one.db 0 a.heap (number_owner image (databases image) k d (has_databases image a) inside) (omega arith) in
+    free (k, one, inside, get-any (databases image) k one d inside, (λ z. omega arith, e))
 
 pub own_names : (image : List ℕ) (one : StoredDatabase) → Accepted image → (IsTaken (store_of image) 0 one.database.header.name → ⊥) → Distinct (names_of (databases image ++ one ∷ []))
 own_names image one a free =
@@ -70,79 +71,22 @@ own_names image one a free =
     (λ k n below e. names_apart image one.database.header.name a free k one (omega arith) (sym (get_or-map (λ (x : StoredDatabase). x.database.header.name) (databases image) k one n (omega arith)) ∙ e)))
 
 none_named : (name : ℕ) → 0 < name → times name (0 ∷ 0 ∷ []) ≡ 0
-none_named name some =
-    let one = times-cons name 0 (0 ∷ []) in
-    let two = times-cons name 0 [] in
-    let no = same-no 0 name (λ e. omega arith) in
-    omega arith
+none_named name some = omega (arith, times-cons name 0 (0 ∷ []), times-cons name 0 [], same-no 0 name (λ e. omega arith))
 
 -- who owns each name, before and after
 pub counted : (old new : List ℕ) (slot name : ℕ) → HeapAccepted old → HeapAccepted new → 0 < directory_of new → slot ≢ directory_of new → 0 < name → owner_under new slot ≡ 0 → owner_under old slot ≡ 16 → owner_under new (directory_of new) ≡ 0
     → (directory_of new ≡ directory_of old) ⊎ ((directory_of old ≡ 0) × (owner_under old (directory_of new) ≡ 16)) → (name ≢ slot → name ≢ directory_of new → same (owner_under new name) 0 ≡ same (owner_under old name) 0)
     → same name slot + same name (directory_of new) + same (owner_under old name) 0 ≡ same name (directory_of old) + same (owner_under new name) 0
-counted old new slot name h is low apart positive own was directory begins others = elim (cases_eq name slot) [
-  | inl e ↦
-      let one = same-yes name slot e in
-      let two = same-no name (directory_of new) (λ f. apart (sym e ∙ f)) in
-      let now : owner_under new name ≡ 0 = ap (owner_under new) e ∙ own in
-      let past : owner_under old name ≡ 16 = ap (owner_under old) e ∙ was in
-      let three = same-no (owner_under old name) 0 (λ z. omega arith) in
-      let four = same-yes (owner_under new name) 0 now in
-      let five = same-no name (directory_of old) (λ f. elim begins [
-        | inl stays ↦ apart (sym e ∙ f ∙ sym stays)
-        | inr none ↦ (let zero_is = none.0 in omega arith)
-      ]) in
-      omega arith
-  | inr ne ↦ elim (cases_eq name (directory_of new)) [
-    | inl e ↦
-        let one = same-no name slot ne in
-        let two = same-yes name (directory_of new) e in
-        let now : owner_under new name ≡ 0 = ap (owner_under new) e ∙ directory in
-        let four = same-yes (owner_under new name) 0 now in
-        elim begins [
-          | inl stays ↦
-              let past : owner_under old name ≡ 0 = ap (owner_under old) (e ∙ stays) ∙ directory_owner old h (omega arith) in
-              let three = same-yes (owner_under old name) 0 past in
-              let five = same-yes name (directory_of old) (e ∙ stays) in
-              omega arith
-          | inr none ↦
-              let past : owner_under old name ≡ 16 = ap (owner_under old) e ∙ none.1 in
-              let three = same-no (owner_under old name) 0 (λ z. omega arith) in
-              let zero_is = none.0 in
-              let five = same-no name (directory_of old) (λ f. omega arith) in
-              omega arith
-        ]
-    | inr other ↦
-        let one = same-no name slot ne in
-        let two = same-no name (directory_of new) other in
-        let kept = others ne other in
-        let five = same-no name (directory_of old) (λ f. elim begins [
-          | inl stays ↦ other (f ∙ sym stays)
-          | inr none ↦ (let zero_is = none.0 in omega arith)
-        ]) in
-        omega arith
-  ]
-]
+counted old new slot name h is low apart positive own was directory begins others =
+    let past : 0 < directory_of old → owner_under old (directory_of old) ≡ 0 = directory_owner old h in
+    grind (arith, nat_tests)
 
 pub data_alike : (old new : List ℕ) (slot name : ℕ) → owner_under new slot ≡ 0 → owner_under old slot ≡ 16 → owner_under new (directory_of new) ≡ 0 → HeapAccepted old
     → (directory_of new ≡ directory_of old) ⊎ ((directory_of old ≡ 0) × (owner_under old (directory_of new) ≡ 16)) → 0 < directory_of new → (name ≢ slot → name ≢ directory_of new → owner_under new name ≡ owner_under old name)
     → same (owner_under old name) 15 ≡ same (owner_under new name) 15
-data_alike old new slot name own was directory h begins low others = elim (cases_eq name slot) [
-  | inl e ↦
-      let now : owner_under new name ≡ 0 = ap (owner_under new) e ∙ own in
-      let past : owner_under old name ≡ 16 = ap (owner_under old) e ∙ was in
-      same-no (owner_under old name) 15 (λ z. omega arith) ∙ sym (same-no (owner_under new name) 15 (λ z. omega arith))
-  | inr ne ↦ elim (cases_eq name (directory_of new)) [
-    | inl e ↦
-        let now : owner_under new name ≡ 0 = ap (owner_under new) e ∙ directory in
-        let past : owner_under old name ≢ 15 = λ z. elim begins [
-          | inl stays ↦ (let before = ap (owner_under old) (e ∙ stays) ∙ directory_owner old h (omega arith) in omega arith)
-          | inr none ↦ (let before = ap (owner_under old) e ∙ none.1 in omega arith)
-        ] in
-        same-no (owner_under old name) 15 past ∙ sym (same-no (owner_under new name) 15 (λ z. omega arith))
-    | inr other ↦ ap (λ (o : ℕ). same o 15) (sym (others ne other))
-  ]
-]
+data_alike old new slot name own was directory h begins low others =
+    let past : 0 < directory_of old → owner_under old (directory_of old) ≡ 0 = directory_owner old h in
+    grind (arith, nat_tests)
 
 pub appends : (old new : List ℕ) (one : StoredDatabase) → Accepted old → ListsNew old new one.db (spelled one.database) → data_in one.database ≡ 0 ∷ 0 ∷ [] → one.database.entries ≡ [] → DatabaseFits one.database → length (databases old) < most_databases
     → (IsTaken (store_of old) 0 one.database.header.name → ⊥) → Appends old new (databases old) one
@@ -188,15 +132,14 @@ appends old new one a l none empty fits few free =
 
 -- callers may name what they might
 pub callers_alike : (old new : List ℕ) (slot : ℕ) (bytes : List ℕ) → HeapAccepted old → ListsNew old new slot bytes → (name : ℕ) → callers_map new name ≡ callers_map old name
+unfolding owner_under
 callers_alike old new slot bytes h l name = elim (cases_eq name slot) [
-  | inl e ↦ ap (callers_map new) e ∙ callers_managers new slot (chunk_of bytes) l.chunk refl ∙ sym (ap (callers_map old) e ∙ ap (not_owned 0) l.fresh)
+  | inl e ↦ rw e (callers_managers new slot (chunk_of bytes) l.chunk refl ∙ sym (ap (not_owned 0) l.fresh))
   | inr ne ↦ elim (cases_eq name (directory_of new)) [
-    | inl e ↦
-        let o = owned new (directory_of new) 0 (directory_owner new l.accepted l.some) (omega arith) in
-        ap (callers_map new) e ∙ callers_managers new (directory_of new) o.live o.there o.own ∙ sym (ap (callers_map old) e ∙ elim l.directory [
-          | inl stays ↦ (let some = l.some in let was = owned old (directory_of old) 0 (directory_owner old h (omega arith)) (omega arith) in ap (callers_map old) stays ∙ callers_managers old (directory_of old) was.live was.there was.own)
-          | inr begins ↦ ap (not_owned 0) begins.1
-        ])
+    | inl e ↦ rw e (hidden (held new (directory_of new)) (directory_owner new l.accepted l.some) ∙ sym (elim l.directory [
+      | inl stays ↦ hidden (held old (directory_of new)) (ap (owner_under old) stays ∙ directory_owner old h (omega (arith, l.some)))
+      | inr begins ↦ ap (not_owned 0) begins.1
+    ]))
     | inr other ↦ ap (not_owned 0) (l.others name ne other)
   ]
 ]
