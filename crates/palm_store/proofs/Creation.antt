@@ -1,5 +1,5 @@
 -- A database that was made: its header is written into the chunk that was listed last.
-use Rattle.palm_store.proofs.Words.{◌≡◌, ◌≢◌, ℕ, ◌+◌, ◌^◌, ◌<◌, ◌≤◌, Bool, true, false, List, [], ◌∷◌, ◌++◌, length, get_or, replicate, Option, Some, None, refl, sym, ap, subst, ◌∙◌, arith, length-append, inl, inr, both_ways, cases_eq, append-nil, map-append, get_or-map, length-map, All-nil, IsTrue, ◌⊎◌, if◌then◌else◌, All, filter_map, flat_map, Memory, KeepsLoan, u32_bytes, header_size, HeapAccepted, directory_of, LiveChunk, chunks_of, held, free_slots, rooms, same, times, u32s_in, Distinct, not_owned, callers_map, put, Leaves, Stuck, Entry, Database, data_in, header_bytes, entry_bytes, spelled, has_resources, IsDatabaseName, EntryFits, DatabaseFits, StoredDatabase, owner_under, directory_bytes, listed, databases, names_of, most_databases, unique_id, unique_ids, HasUniqueIds, Accepted, store_of, NamesData, IsTaken, empty_database, create_parts, create_slots, DoesInStore, Db, Refusal, NotEnoughSpace, InvalidName, AlreadyExists, TooManyEntries, Create, length-u32_bytes, read_heap, callers_managers, hidden, as_before, Appends, same-yes, same-no, times-cons, owned_slot, directory_owner, owned_some, has_databases, listed_numbers, length-numbers, get-any, directory_like, number_owner, managers_loose, none_some, u32s_push, refused, create_steps, ListsNew, all_written}
+use Rattle.palm_store.proofs.Words.{◌≡◌, ◌≢◌, ℕ, ◌+◌, ◌^◌, ◌<◌, ◌≤◌, Bool, true, false, List, [], ◌∷◌, ◌++◌, length, get_or, replicate, Option, Some, None, refl, sym, ap, subst, ◌∙◌, arith, length-append, inl, inr, both_ways, cases_eq, append-nil, map-append, get_or-map, length-map, All-nil, IsTrue, ◌⊎◌, if◌then◌else◌, All, filter_map, flat_map, Memory, KeepsLoan, u32_bytes, header_size, HeapAccepted, directory_of, LiveChunk, chunks_of, held, free_slots, rooms, same, times, u32s_in, Distinct, not_owned, callers_map, put, Leaves, Stuck, Entry, Database, data_in, header_bytes, entry_bytes, spelled, has_resources, IsDatabaseName, EntryFits, DatabaseFits, StoredDatabase, owner_under, directory_bytes, listed, databases, names_of, most_databases, unique_id, unique_ids, HasUniqueIds, Accepted, store_of, NamesData, IsTaken, empty_database, create_parts, create_slots, DoesInStore, Db, Refusal, NotEnoughSpace, InvalidName, AlreadyExists, TooManyEntries, Create, length-u32_bytes, read_heap, callers_managers, hidden, as_before, Appends, same-yes, same-no, times-cons, owned_slot, directory_owner, owned_some, has_databases, listed_numbers, length-numbers, get-any, directory_like, number_owner, managers_loose, none_some, u32s_push, refused, create_steps, ListsNew, ListsWhole, IsGained, GainsZeros, all_written}
 use Rattle.std.proofs.lemmas.Bool.Decides.{nat_tests}
 use Rattle.std.proofs.lemmas.List.Quantifiers.{all_pairs_push}
 use Rattle.heap_model.specs.declared.call.Call.TheVariants as calls
@@ -7,6 +7,7 @@ use Rattle.heap_model.specs.declared.call.Reply.TheVariants as replies
 use Rattle.laws_heap.proofs.Slots.{slot_facts}
 use Rattle.laws_store.proofs.ChangeSteps.{same_steps}
 use Rattle.palm_store.proofs.DataChunks.{name_some}
+use Rattle.palm_store.proofs.GainedChunks.{zip_weaken, zeros_of, IsNew, gained}
 use Rattle.palm_store.proofs.Maps.{owner_held, owner_none, owner_alike, bytes_held, owned, held_some, still_through}
 use Rattle.palm_store.proofs.ListedSlots.{chunk_of, put_here, put_apart, lock_of}
 
@@ -73,76 +74,92 @@ own_names image one a free =
 none_named : (name : ℕ) → 0 < name → times name (0 ∷ 0 ∷ []) ≡ 0
 none_named name some = omega (arith, times-cons name 0 (0 ∷ []), times-cons name 0 [], same-no 0 name (λ e. omega arith))
 
--- who owns each name, before and after
-pub counted : (old new : List ℕ) (slot name : ℕ) → HeapAccepted old → HeapAccepted new → 0 < directory_of new → slot ≢ directory_of new → 0 < name → owner_under new slot ≡ 0 → owner_under old slot ≡ 16 → owner_under new (directory_of new) ≡ 0
-    → (directory_of new ≡ directory_of old) ⊎ ((directory_of old ≡ 0) × (owner_under old (directory_of new) ≡ 16)) → (name ≢ slot → name ≢ directory_of new → same (owner_under new name) 0 ≡ same (owner_under old name) 0)
-    → same name slot + same name (directory_of new) + same (owner_under old name) 0 ≡ same name (directory_of old) + same (owner_under new name) 0
-counted old new slot name h is low apart positive own was directory begins others =
-    let past : 0 < directory_of old → owner_under old (directory_of old) ≡ 0 = directory_owner old h in
-    grind (arith, nat_tests)
+-- how a name counts afterwards, by its owners: `o` before, and `n` afterwards
+owners_gained : (name slot was directory o n t : ℕ) → 0 < name → slot ≢ directory → (name ≡ slot → (o ≡ 16) × (n ≡ 0)) → (name ≡ directory → n ≡ 0) → (name ≡ was → o ≡ 0)
+    → (directory ≡ was) ⊎ ((was ≡ 0) × (name ≡ directory → o ≡ 16)) → (0 < t → (t ≤ 1) × (o ≡ 16) × (n ≡ 15)) → (name ≢ slot → name ≢ directory → t ≡ 0 → n ≡ o)
+    → (same name slot + same name directory + same o 0 ≡ same name was + same n 0) × (t + same o 15 ≡ same n 15)
+owners_gained name slot was directory o n t some apart at_slot at_directory at_was begins gains stays = (grind (arith, nat_tests), grind (arith, nat_tests))
 
-pub data_alike : (old new : List ℕ) (slot name : ℕ) → owner_under new slot ≡ 0 → owner_under old slot ≡ 16 → owner_under new (directory_of new) ≡ 0 → HeapAccepted old
-    → (directory_of new ≡ directory_of old) ⊎ ((directory_of old ≡ 0) × (owner_under old (directory_of new) ≡ 16)) → 0 < directory_of new → (name ≢ slot → name ≢ directory_of new → owner_under new name ≡ owner_under old name)
-    → same (owner_under old name) 15 ≡ same (owner_under new name) 15
-data_alike old new slot name own was directory h begins low others =
-    let past : 0 < directory_of old → owner_under old (directory_of old) ≡ 0 = directory_owner old h in
-    grind (arith, nat_tests)
-
-pub appends : (old new : List ℕ) (one : StoredDatabase) → Accepted old → ListsNew old new one.db (spelled one.database) → data_in one.database ≡ 0 ∷ 0 ∷ [] → one.database.entries ≡ [] → DatabaseFits one.database → length (databases old) < most_databases
-    → (IsTaken (store_of old) 0 one.database.header.name → ⊥) → Appends old new (databases old) one
+-- it comes after the others, with its data
+pub appends_gained : (old new : List ℕ) (one : StoredDatabase) (sizes : List (Option ℕ)) (names : List ℕ) → Accepted old → ListsWhole old new one.db (spelled one.database) sizes names → DatabaseFits one.database → All NamesData one.database.entries
+    → HasUniqueIds one.database → ((q : ℕ) → 0 < q → times q (data_in one.database) ≡ times q names) → length (databases old) < most_databases → (IsTaken (store_of old) 0 one.database.header.name → ⊥) → Appends old new (databases old) one
 unfolding listed
-appends old new one a l none empty fits few free =
-    let slot : ℕ = one.db in
-    let h = a.heap in
-    let own : owner_under new slot ≡ 0 = owner_held new slot (chunk_of (spelled one.database)) l.chunk in
-    let some : 0 < slot = held_some new slot (chunk_of (spelled one.database)) l.accepted l.chunk (omega arith) in
-    let was : owner_under old slot ≡ 16 = owner_none old slot l.fresh in
-    let new_directory : owner_under new (directory_of new) ≡ 0 = directory_owner new l.accepted l.some in
-    let long = length-append (directory_bytes old) (u32_bytes slot) in
-    let four = length-u32_bytes slot in
-    let bytes = ap length l.last in
-    let whole = a.whole in
+appends_gained old new one sizes names a l fits named ids sums few free =
+    let chunk : LiveChunk = chunk_of (spelled one.database) in
+    let own : owner_under new one.db ≡ 0 = owner_held new one.db chunk l.chunk in
+    let was : owner_under old one.db ≡ 16 = owner_none old one.db l.fresh in
     record {
       heap = l.accepted;
-      whole = omega (arith, long, four, bytes, whole);
-      listed_are = ap u32s_in l.last ∙ u32s_push (directory_bytes old) slot a.whole (slot_fits new slot l.accepted own);
-      some = some;
+      whole = omega (arith, length-append (directory_bytes old) (u32_bytes one.db), length-u32_bytes one.db, ap length l.last, a.whole);
+      listed_are = ap u32s_in l.last ∙ u32s_push (directory_bytes old) one.db a.whole (slot_fits new one.db l.accepted own);
+      some = held_some new one.db chunk l.accepted l.chunk (omega arith);
       few = few;
-      database = record {
-        spelled = record { fits = fits; bytes_are = bytes_held new slot (chunk_of (spelled one.database)) l.chunk };
-        entries = subst (λ (entries : List (Entry ℕ)). All NamesData entries) (sym empty) (All-nil NamesData);
-        ids = no_ids one.database empty;
-      };
+      database = record { spelled = record { fits = fits; bytes_are = bytes_held new one.db chunk l.chunk }; entries = named; ids = ids };
       own_names = own_names old one a free;
-      managers = λ name other owns. l.others name (λ e. (let same_owner = ap (owner_under old) (sym e) ∙ owns in omega arith)) (λ e. elim l.directory [
-        | inl stays ↦ other (e ∙ stays)
-        | inr begins ↦ (let gone = owner_none old (directory_of new) begins.1 in let same_owner = ap (owner_under old) (sym e) ∙ owns in omega arith)
-      ]);
-      owners = λ name positive. counted old new slot name h l.accepted l.some l.apart positive own was new_directory (elim l.directory [ inl stays ↦ inl stays | inr begins ↦ inr (begins.0, owner_none old (directory_of new) begins.1) ]) (λ ne other. ap (λ (o : ℕ). same o 0) (owner_alike old new name (l.others name ne other)));
-      balance = λ name positive.
-          let nothing : times name (data_in one.database) ≡ 0 = ap (times name) none ∙ none_named name positive in
-          let alike : same (owner_under old name) 15 ≡ same (owner_under new name) 15 = data_alike old new slot name own was new_directory h (elim l.directory [ inl stays ↦ inl stays | inr begins ↦ inr (begins.0, owner_none old (directory_of new) begins.1) ]) l.some
-          (λ ne other. owner_alike old new name (l.others name ne other)) in
-          omega arith;
+      managers = λ name other owns. l.others name (λ e. (let same_owner = ap (owner_under old) e in omega arith))
+          (λ e. elim l.directory [
+            | inl stays ↦ other (e ∙ stays)
+            | inr begins ↦ (let none = owner_none old name (ap (held old) e ∙ begins.1) in omega arith)
+          ])
+          (λ positive. elim (cases_eq (times name names) 0) [
+            | inl none ↦ none
+            | inr more ↦ (let none = owner_none old name (is_new name positive (omega arith)).fresh in absurd (omega arith))
+          ]);
+      owners = λ name positive. (owned_after name positive own was).0;
+      balance = λ name positive. (let after = (owned_after name positive own was).1 in let sum = sums name positive in omega arith);
     } where
-      no_ids : (database : Database ℕ) → database.entries ≡ [] → HasUniqueIds database
-      no_ids database empty =
-          let none : unique_ids database ≡ [] = ap (filter_map unique_id) empty in
-          record { none_zero = subst (λ (ids : List ℕ). All (λ id. id ≢ 0) ids) (sym none) (All-nil (λ id. id ≢ 0)); distinct = subst (λ (ids : List ℕ). Distinct ids) (sym none) (λ i j d less below. absurd (omega arith)) }
+      is_new : (name : ℕ) → 0 < name → 0 < times name names → IsNew (held old) (held new) name
+      is_new name positive at = gained (held old) (held new) sizes names l.each name positive at
 
--- callers may name what they might
-pub callers_alike : (old new : List ℕ) (slot : ℕ) (bytes : List ℕ) → HeapAccepted old → ListsNew old new slot bytes → (name : ℕ) → callers_map new name ≡ callers_map old name
+      owned_after : (name : ℕ) → 0 < name → owner_under new one.db ≡ 0 → owner_under old one.db ≡ 16 → (same name one.db + same name (directory_of new) + same (owner_under old name) 0 ≡ same name (directory_of old) + same (owner_under new name) 0) × (times name names + same (owner_under old name) 15 ≡ same (owner_under new name) 15)
+      owned_after name positive own was = owners_gained name one.db (directory_of old) (directory_of new) (owner_under old name) (owner_under new name) (times name names) positive l.apart
+          (λ e. (ap (owner_under old) e ∙ was, ap (owner_under new) e ∙ own)) (λ e. ap (owner_under new) e ∙ directory_owner new l.accepted l.some) (λ e. ap (owner_under old) e ∙ directory_owner old a.heap (omega arith))
+          (elim l.directory [ inl stays ↦ inl stays | inr begins ↦ inr (begins.0, λ e. owner_none old name (ap (held old) e ∙ begins.1)) ])
+          (λ some. (let is = is_new name positive some in (l.once name positive, owner_none old name is.fresh, owner_held new name (zeros_of is.size) is.there)))
+          (λ ne other none. owner_alike old new name (l.others name ne other (λ z. none)))
+
+-- ---- what callers may name
+
+hidden_none : (image : List ℕ) (name : ℕ) → owner_under image name ≡ 0 → callers_map image name ≡ None
 unfolding owner_under
-callers_alike old new slot bytes h l name = elim (cases_eq name slot) [
-  | inl e ↦ rw e (callers_managers new slot (chunk_of bytes) l.chunk refl ∙ sym (ap (not_owned 0) l.fresh))
-  | inr ne ↦ elim (cases_eq name (directory_of new)) [
-    | inl e ↦ rw e (hidden (held new (directory_of new)) (directory_owner new l.accepted l.some) ∙ sym (elim l.directory [
-      | inl stays ↦ hidden (held old (directory_of new)) (ap (owner_under old) stays ∙ directory_owner old h (omega (arith, l.some)))
-      | inr begins ↦ ap (not_owned 0) begins.1
-    ]))
-    | inr other ↦ ap (not_owned 0) (l.others name ne other)
-  ]
-]
+hidden_none image name own = hidden (held image name) own
+
+pub callers_gain : (old new : List ℕ) (db : ℕ) (bytes : List ℕ) (sizes : List (Option ℕ)) (names : List ℕ) → HeapAccepted old → ListsWhole old new db bytes sizes names → GainsZeros (callers_map old) (callers_map new) sizes names
+callers_gain old new db bytes sizes names h l = record {
+  each = zip_weaken (IsGained (held old) (held new)) (IsGained (callers_map old) (callers_map new)) sizes names (λ size name. shown size name) l.each;
+  once = l.once;
+  others = λ name none. elim (cases_eq name db) [
+    | inl e ↦ hidden_none new name (ap (owner_under new) e ∙ owner_held new db (chunk_of bytes) l.chunk) ∙ sym (ap (not_owned 0) (ap (held old) e ∙ l.fresh))
+    | inr ne ↦ elim (cases_eq name (directory_of new)) [
+      | inl e ↦ hidden_none new name (ap (owner_under new) e ∙ directory_owner new l.accepted l.some) ∙ sym (elim l.directory [
+        | inl stays ↦ hidden_none old name (ap (owner_under old) (e ∙ stays) ∙ directory_owner old h (omega (arith, l.some)))
+        | inr begins ↦ ap (not_owned 0) (ap (held old) e ∙ begins.1)
+      ])
+      | inr other ↦ ap (not_owned 0) (l.others name ne other none)
+    ]
+  ];
+} where
+  shown : (size : Option ℕ) (name : ℕ) → IsGained (held old) (held new) size name → IsGained (callers_map old) (callers_map new) size name
+  shown None name is = is
+  shown (Some size) name is = (is.0, ap (not_owned 0) is.1, ap (not_owned 0) is.2)
+
+-- without data
+as_whole : (old new : List ℕ) (slot : ℕ) (bytes : List ℕ) → ListsNew old new slot bytes → ListsWhole old new slot bytes [] []
+as_whole old new slot bytes l = record {
+  accepted = l.accepted;
+  len = l.len;
+  tables = l.tables;
+  still = l.still;
+  some = l.some;
+  directory = l.directory;
+  last = l.last;
+  fresh = l.fresh;
+  apart = l.apart;
+  chunk = l.chunk;
+  each = tt;
+  once = λ name some. omega arith;
+  others = λ name ne other none. l.others name ne other;
+}
 
 -- ---- the step
 
@@ -157,7 +174,10 @@ created old new db name kind creator resources date a l fits few free loan rest 
     let count = length-numbers (databases old.bytes) in
     let as_listed = ap length (listed_numbers old.bytes) in
     let room : length (databases old.bytes) < most_databases = omega arith in
-    let has = create_steps old.bytes new.bytes one a (appends old.bytes new.bytes one a l refl refl fits room free) (callers_alike old.bytes new.bytes db.0 (spelled one.database) a.heap l) in
+    let whole = as_whole old.bytes new.bytes db.0 (spelled one.database) l in
+    let ids : HasUniqueIds one.database = record { none_zero = All-nil (λ id. id ≢ 0); distinct = λ i j d less below. absurd (omega arith) } in
+    let has = create_steps old.bytes new.bytes one a (appends_gained old.bytes new.bytes one [] [] a whole fits (All-nil NamesData) ids (λ q some. none_named q some) room free)
+    (λ name. (callers_gain old.bytes new.bytes db.0 (spelled one.database) [] [] a.heap whole).others name (λ some. refl)) in
     record {
       before = a;
       step = ((λ not_name. not_name fits.name, (free, ((λ many. below_most old.bytes room many), (tt, tt)))), (l.fresh, has.same));
