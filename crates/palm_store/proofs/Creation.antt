@@ -1,11 +1,12 @@
 -- A database that was made: its header is written into the chunk that was listed last.
-use Rattle.palm_store.proofs.Words.{◌≡◌, ◌≢◌, ℕ, ◌+◌, ◌^◌, ◌<◌, ◌≤◌, Bool, true, false, List, [], ◌∷◌, ◌++◌, length, get_or, replicate, Option, Some, None, refl, sym, ap, subst, ◌∙◌, arith, length-append, inl, inr, both_ways, cases_eq, append-nil, map-append, get_or-map, length-map, All-nil, IsTrue, ◌⊎◌, if◌then◌else◌, All, filter_map, flat_map, Memory, KeepsLoan, u32_bytes, header_size, HeapAccepted, directory_of, LiveChunk, chunks_of, held, free_slots, rooms, same, times, u32s_in, Distinct, not_owned, callers_map, put, Leaves, Stuck, Entry, Database, data_in, header_bytes, entry_bytes, spelled, has_resources, IsDatabaseName, EntryFits, DatabaseFits, StoredDatabase, owner_under, directory_bytes, listed, databases, names_of, most_databases, unique_id, unique_ids, HasUniqueIds, Accepted, store_of, NamesData, IsTaken, empty_database, create_parts, create_slots, DoesInStore, Db, Refusal, NotEnoughSpace, InvalidName, AlreadyExists, TooManyEntries, Create, length-u32_bytes, read_heap, callers_managers, hidden, as_before, Appends, same-yes, same-no, times-cons, owned_slot, directory_owner, owned_some, has_databases, listed_numbers, length-numbers, get-any, directory_like, number_owner, managers_loose, none_some, u32s_push, refused, create_steps, ListsNew, ListsWhole, IsGained, GainsZeros, all_written}
+use Rattle.palm_store.proofs.Words.{◌≡◌, ◌≢◌, ℕ, ◌+◌, ◌^◌, ◌<◌, ◌≤◌, Bool, true, false, List, [], ◌∷◌, ◌++◌, length, get_or, replicate, Option, Some, None, refl, sym, ap, subst, ◌∙◌, arith, length-append, inl, inr, both_ways, cases_eq, append-nil, map-append, get_or-map, length-map, All-nil, IsTrue, ◌⊎◌, if◌then◌else◌, All, filter_map, flat_map, Memory, KeepsLoan, u32_bytes, header_size, HeapAccepted, directory_of, LiveChunk, chunks_of, held, free_slots, rooms, same, times, u32s_in, Distinct, not_owned, callers_map, put, Leaves, Stuck, Entry, Database, data_in, header_bytes, entry_bytes, spelled, has_resources, IsDatabaseName, EntryFits, DatabaseFits, StoredDatabase, owner_under, directory_bytes, listed, databases, names_of, most_databases, unique_id, unique_ids, HasUniqueIds, Accepted, store_of, NamesData, IsTaken, empty_database, create_parts, create_slots, DoesInStore, Db, Refusal, NotEnoughSpace, InvalidName, AlreadyExists, TooManyEntries, Create, length-u32_bytes, read_heap, callers_managers, hidden, as_before, Appends, same-yes, same-no, times-cons, owned_slot, directory_owner, owned_some, has_databases, listed_numbers, length-numbers, get-any, directory_like, number_owner, managers_loose, none_some, u32s_push, refused, same_steps, create_steps, ListsNew, ListsWhole, IsGained, GainsZeros, all_written}
 use Rattle.std.proofs.lemmas.Bool.Decides.{nat_tests}
 use Rattle.std.proofs.lemmas.List.Quantifiers.{all_pairs_push}
 use Rattle.heap_model.specs.declared.call.Call.TheVariants as calls
 use Rattle.heap_model.specs.declared.call.Reply.TheVariants as replies
 use Rattle.laws_heap.proofs.Slots.{slot_facts}
-use Rattle.laws_store.proofs.ChangeSteps.{same_steps}
+use Rattle.laws_store.proofs.CallSteps.{changes}
+use Rattle.palm_store.proofs.NewEntries.{left_as_before}
 use Rattle.palm_store.proofs.DataChunks.{name_some}
 use Rattle.palm_store.proofs.GainedChunks.{zip_weaken, zeros_of, IsNew, gained}
 use Rattle.palm_store.proofs.Maps.{owner_held, owner_none, owner_alike, bytes_held, owned, held_some, still_through}
@@ -163,6 +164,9 @@ as_whole old new slot bytes l = record {
 
 -- ---- the step
 
+pub few_listed : (image : List ℕ) → length (listed image) < most_databases → length (databases image) < most_databases
+few_listed image few = omega (arith, length-numbers (databases image), ap length (listed_numbers image))
+
 pub below_most : (image : List ℕ) → length (databases image) < most_databases → most_databases ≤ length (store_of image).databases → ⊥
 unfolding store_of
 below_most image room many = omega arith
@@ -171,9 +175,7 @@ pub created : (old new : Memory) (db : Db) (name : List ℕ) (kind creator : ℕ
     → length (listed old.bytes) < most_databases → (IsTaken (store_of old.bytes) 0 name → ⊥) → KeepsLoan old new → new ≡ record old { bytes = new.bytes; slid = new.slid } → DoesInStore old (calls.Database (Create name kind creator resources date)) (replies.Database db) new
 created old new db name kind creator resources date a l fits few free loan rest =
     let one : StoredDatabase = record { db = db.0; database = empty_database name kind creator resources date } in
-    let count = length-numbers (databases old.bytes) in
-    let as_listed = ap length (listed_numbers old.bytes) in
-    let room : length (databases old.bytes) < most_databases = omega arith in
+    let room = few_listed old.bytes few in
     let whole = as_whole old.bytes new.bytes db.0 (spelled one.database) l in
     let ids : HasUniqueIds one.database = record { none_zero = All-nil (λ id. id ≢ 0); distinct = λ i j d less below. absurd (omega arith) } in
     let has = create_steps old.bytes new.bytes one a (appends_gained old.bytes new.bytes one [] [] a whole fits (All-nil NamesData) ids (λ q some. none_named q some) room free)
@@ -196,23 +198,8 @@ pub not_created : (old new : Memory) (name : List ℕ) (kind creator : ℕ) (res
     → (free_slots old.bytes < create_slots old.bytes) ⊎ Stuck (rooms old.bytes) (create_parts old.bytes) → refusal ≡ NotEnoughSpace → Leaves old.bytes new.bytes (held old.bytes) → KeepsLoan old new → new ≡ record old { bytes = new.bytes; slid = new.slid }
     → DoesInStore old (calls.Database (Create name kind creator resources date)) (replies.Refused refusal) new
 not_created old new name kind creator resources date refusal a named few free lacks is l loan rest =
-    let has = same_steps old.bytes new.bytes a l.frame l.map in
-    let count = length-numbers (databases old.bytes) in
-    let as_listed = ap length (listed_numbers old.bytes) in
-    let room : length (databases old.bytes) < most_databases = omega arith in
-    let as_much = as_before old.bytes new.bytes a.heap l.frame l.map in
-    record {
-      before = a;
-      step = (inr (λ not_name. not_name named, inr (free, inr ((λ many. below_most old.bytes room many), inl (lacks, is)))), record { store = has.same; free = as_much.0; slots = as_much.1 });
-      accepted = has.accepted;
-      len = l.frame.len;
-      tables = l.frame.tables;
-      directory = inl l.frame.directory;
-      still = l.still;
-      loan = loan;
-      asks = tt;
-      rest = rest;
-    }
+    let why = inr (λ not_name. not_name named, inr (free, inr ((λ many. below_most old.bytes (few_listed old.bytes few) many), inl (lacks, is)))) in
+    changes old new (calls.Database (Create name kind creator resources date)) (replies.Refused refusal) (store_of old.bytes) (λ tables. refl) a (same_steps old.bytes new.bytes a l) (why, left_as_before old new a l) loan tt rest
 
 -- ---- what is refused at once
 
@@ -225,7 +212,7 @@ name_taken old name kind creator resources date a named taken = refused old (cal
 
 pub most_there : (image : List ℕ) → most_databases ≤ length (listed image) → most_databases ≤ length (store_of image).databases
 unfolding store_of
-most_there image many = (let count = length-numbers (databases image) in let as_listed = ap length (listed_numbers image) in omega arith)
+most_there image many = omega (arith, length-numbers (databases image), ap length (listed_numbers image))
 
 pub too_many : (old : Memory) (name : List ℕ) (kind creator : ℕ) (resources : Bool) (date : ℕ) → Accepted old.bytes → IsDatabaseName name → (IsTaken (store_of old.bytes) 0 name → ⊥) → most_databases ≤ length (listed old.bytes)
     → DoesInStore old (calls.Database (Create name kind creator resources date)) (replies.Refused TooManyEntries) old
@@ -235,8 +222,7 @@ too_many old name kind creator resources date a named free many =
 -- ---- its header
 
 bit_fits : (resources : Bool) → (if resources then 1 else 0) < 2 ^ 16
-bit_fits true = omega arith
-bit_fits false = omega arith
+bit_fits resources = grind (arith, nat_tests)
 
 pub empty_fits : (name : List ℕ) (kind creator : ℕ) (resources : Bool) (date : ℕ) → IsDatabaseName name → kind < 2 ^ 32 → creator < 2 ^ 32 → date < 2 ^ 32 → DatabaseFits (empty_database name kind creator resources date)
 empty_fits name kind creator resources date named kind_fits creator_fits date_fits = record {

@@ -1,12 +1,13 @@
 -- That a database is deleted is a step of the store, and so is that a locked chunk of it forbids
 -- that.
-use Rattle.palm_store.proofs.Words.{◌≡◌, ◌≢◌, ℕ, ◌+◌, ◌*◌, ◌<◌, ◌≤◌, List, [], ◌∷◌, ◌++◌, length, Option, Some, None, refl, sym, ap, subst, ◌∙◌, arith, inl, inr, cases_eq, cases_lt, ◌==◌, if◌then◌else◌, Any, is_some, Memory, KeepsLoan, HeapAccepted, directory_of, LiveChunk, held, Still, gone, callers_map, times, Leaves, Database, data_in, Of, IsLocked, StoredDatabase, owner_of, owner_under, directory_bytes, database_under, Accepted, store_of, OfDatabase, In, all_gone, with_number, DoesInStore, Db, ChunkLocked, Delete, keeps_itself, held-zero, times-cons, times-append, managers_loose, directory_owner, drop_steps, refused, in_here, HasNumber, IsListedAt, named_under, Unlists}
+use Rattle.palm_store.proofs.Words.{◌≡◌, ◌≢◌, ℕ, ◌+◌, ◌*◌, ◌<◌, ◌≤◌, List, [], ◌∷◌, ◌++◌, length, Option, Some, None, refl, sym, ap, subst, ◌∙◌, arith, inl, inr, cases_eq, cases_lt, ◌==◌, if◌then◌else◌, Any, is_some, Memory, KeepsLoan, HeapAccepted, directory_of, LiveChunk, held, Still, gone, callers_map, times, Leaves, Database, data_in, Of, IsLocked, StoredDatabase, owner_of, owner_under, directory_bytes, database_under, Accepted, store_of, OfDatabase, In, all_gone, with_number, DoesInStore, Db, ChunkLocked, Delete, keeps_itself, held-zero, times-cons, times-append, managers_loose, directory_owner, drop_steps, refused, in_here, in_store, number_slot, HasNumber, IsListedAt, named_under, Unlists}
 use Rattle.heap_model.specs.declared.call.Call.TheVariants as calls
 use Rattle.heap_model.specs.declared.call.Reply.TheVariants as replies
-use Rattle.palm_store.proofs.Numbers.{stands, has_number_is, in_store, length-listed, number_slot, no_directory}
+use Rattle.palm_store.proofs.Numbers.{stands, length-listed, no_directory}
 use Rattle.palm_store.proofs.Maps.{kept, is_gone}
 use Rattle.palm_store.proofs.ListedSlots.{few_bytes}
-use Rattle.palm_store.proofs.NamedChunks.{number_unnamed, no_chunk, freed_one, freed_more}
+use Rattle.palm_store.proofs.NamedChunks.{number_unnamed, freed_one, freed_more}
+use Rattle.palm_store.proofs.TwoSteps.{no_chunk}
 use Rattle.palm_store.proofs.BlockCalls.{known_number}
 use Rattle.palm_store.proofs.Creation.{directory_unlocked}
 use Rattle.palm_store.proofs.Deletion.{went, directory_kept, index_inside, drops, clears}
@@ -34,9 +35,7 @@ all_freed old mid new db l m = freed_alike old new (named_under old db ++ db ∷
 directory_some : (image : List ℕ) (db index : ℕ) → Accepted image → IsListedAt image db index → 0 < directory_of image
 directory_some image db index a at = elim (cases_lt 0 (directory_of image)) [
   | inl some ↦ some
-  | inr none ↦
-      let empty = ap length (no_directory image a.heap (omega arith)) in
-      absurd (omega (arith, length-listed image, at.inside))
+  | inr none ↦ absurd (omega (arith, ap length (no_directory image a.heap (omega arith)), length-listed image, at.inside))
 ]
 
 -- the directory is still as it was
@@ -57,9 +56,7 @@ lists_still old mid db index a at l =
 -- no locked chunk that is left has moved
 still_left : (old mid new names : List ℕ) (index : ℕ) → HeapAccepted old → Leaves old mid (all_gone (held old) names) → Unlists mid new index → Still old new
 still_left old mid new names index h l u name live e locked there = elim (cases_eq name (directory_of old)) [
-  | inl d ↦
-      let loose = directory_unlocked old name live h e d in
-      absurd (omega arith)
+  | inl d ↦ absurd (omega (arith, directory_unlocked old name live h e d))
   | inr apart ↦
       let stays : held new name ≡ held mid name = u.others name (λ f. apart (f ∙ l.frame.directory)) in
       elim (cases_eq (times name names) 0) [

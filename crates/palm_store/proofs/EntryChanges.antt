@@ -10,11 +10,8 @@ use Rattle.palm_store.proofs.TwoSteps.{rewritten_apart, KeepsChunks, respelled_k
 -- a name of data, or 0, is not the number
 pub name_apart : (image : List ℕ) (db name : ℕ) → Accepted image → HasNumber image db → (0 < name → owner_under image name ≡ data_owner) → name ≢ db
 name_apart image db name a has own e =
-    let slot = number_slot image db a has in
-    let managers = slot.owner in
-    let is = own (let some = number_some image db a has in omega arith) in
-    let both : owner_under image name ≡ owner_under image db = ap (owner_under image) e in
-    omega arith
+    let is = own (omega (arith, number_some image db a has)) in
+    omega (arith, (number_slot image db a has).owner, ap (owner_under image) e)
 
 -- ---- one database changed, and no chunk
 

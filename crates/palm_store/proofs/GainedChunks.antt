@@ -34,15 +34,11 @@ pub gained : (old new : ChunkMap) (sizes : List (Option ℕ)) (names : List ℕ)
 gained old new [] [] all name some at = absurd (omega arith)
 gained old new (None ∷ sizes) (one ∷ names) all name some at =
     let zero_is : one ≡ 0 = all.0 in
-    let cons = times-cons name one names in
     let no = same-no one name (λ e. omega arith) in
-    gained old new sizes names all.1 name some (omega arith)
+    gained old new sizes names all.1 name some (omega (arith, times-cons name one names))
 gained old new (Some size ∷ sizes) (one ∷ names) all name some at = elim (cases_eq one name) [
   | inl e ↦ record { size = size; fresh = ap old (sym e) ∙ all.0.1; there = ap new (sym e) ∙ all.0.2 }
-  | inr ne ↦
-      let cons = times-cons name one names in
-      let no = same-no one name ne in
-      gained old new sizes names all.1 name some (omega arith)
+  | inr ne ↦ gained old new sizes names all.1 name some (omega (arith, times-cons name one names, same-no one name ne))
 ]
 gained old new sizes names all name some at = absurd all
 
@@ -69,17 +65,15 @@ pub gains_both : (first mid last : ChunkMap) (sizes more : List (Option ℕ)) (n
 gains_both first mid last sizes more names others g h = record {
   each = zip_append (IsGained first last) sizes more names others (zip_weaken (IsGained first mid) (IsGained first last) sizes names (λ size name. front size name) g.each)
       (zip_weaken (IsGained mid last) (IsGained first last) more others (λ size name. back size name) h.each);
-  once = λ name some.
-      let both = times-append name names others in
-      let one = g.once name some in
-      let two = h.once name some in
-      elim (cases_eq (times name names) 0) [
-        | inl none ↦ omega arith
-        | inr here ↦ (let is = gained first mid sizes names g.each name some (omega arith) in let apart = not_gained mid last more others h name (zeros_of is.size) is.there some in omega arith)
-      ];
+  once = λ name some. elim (cases_eq (times name names) 0) [
+    | inl none ↦ omega (arith, times-append name names others, h.once name some)
+    | inr here ↦
+        let is = gained first mid sizes names g.each name some (omega arith) in
+        omega (arith, times-append name names others, g.once name some, not_gained mid last more others h name (zeros_of is.size) is.there some)
+  ];
   others = λ name none.
-      h.others name (λ some. (let both = times-append name names others in let nothing = none some in omega arith))
-      ∙ g.others name (λ some. (let both = times-append name names others in let nothing = none some in omega arith));
+      h.others name (λ some. omega (arith, times-append name names others, none some))
+      ∙ g.others name (λ some. omega (arith, times-append name names others, none some));
 } where
   front : (size : Option ℕ) (name : ℕ) → IsGained first mid size name → IsGained first last size name
   front None name is = is

@@ -88,11 +88,10 @@ attach_leaves old new db at entry one kind name a has is may takes same_kind fit
     let d : Database ℕ = database_here old db.0 in
     let one_made : Entry ℕ = entry_with (λ none. name) one in
     let slot_is = named_so name one in
-    let made_is = made_of old db entry name one is in
     let g = given old name may in
     let count = ap length (entries_here old db has) in
     let put_in : Database ℕ → Database ℕ = with_entry_at at one_made in
-    let sound = inserted_sound d at one_made (accepted_sound old db.0 a has) (subst (λ (k : Bool). EntryFits k one_made) (same_kind ∙ kind_here old db has) fits) (names_some name one (name_some old name g.live a.heap g.there)) (new_id old db entry name one_made has made_is) (omega arith) (omega arith) in
+    let sound = inserted_sound d at one_made (accepted_sound old db.0 a has) (subst (λ (k : Bool). EntryFits k one_made) (same_kind ∙ kind_here old db has) fits) (names_some name one (name_some old name g.live a.heap g.there)) (new_id old db entry name one_made has (made_of old db entry name one is)) (omega arith) (omega arith) in
     let store = given_steps old new db (entry_inserted at one_made) name a has g takes (raised_sound (put_in d) sound) (seeded_name one_made d.header)
     (λ q some. (let names = inserted_names q d at one_made in let slot = ap (λ (n : ℕ). same n q) slot_is in omega arith)) in
     subst (λ (n : ℕ). LeavesStore old new (raised (record { map = reowned (callers_map old) n data_owner; databases = with_changed (databases old) db.0 put_in }) db)) (sym slot_is)
@@ -137,8 +136,7 @@ swap_steps old mid between new db index change entry after slot name owner a has
     let set : Database ℕ → Database ℕ = with_entry_set index exchange in
     let counting : Database ℕ → Database ℕ = λ database. counted (with_entry_set index exchange database) in
     let g = given old name may in
-    let own : 0 < slot → owner_under old slot ≡ data_owner = slot_owner old db index slot entry a has at is_slot in
-    let owned : owner_under old slot ≡ data_owner = own (slot_some old db index slot entry has at is_slot there) in
+    let owned = slot_owner old db index slot entry a has at is_slot (slot_some old db index slot entry has at is_slot there) in
     let chunk = for_data old slot owned in
     let apart = slot_apart old slot name g owned in
     let written : Respells old mid db.0 (counting d) = subst (λ (other : Database ℕ). Respells old mid db.0 (counted other)) (set_is d index exchange entry after at is) first in
@@ -148,7 +146,7 @@ swap_steps old mid between new db index change entry after slot name owner a has
     let both = then_reowned old between new (reowned map slot owner) name data_owner (keeps_then old mid between keeps (changed_keeps mid between slot (owned_by owner) (λ live. refl) second)) handed third in
     let out : Option LiveChunk = changed (owned_by owner) (callers_map old slot) in
     let now : Option LiveChunk = changed (owned_by data_owner) (reowned (callers_map old) slot owner name) in
-    let slot_was : map slot ≡ callers_map old slot = rewritten_apart (held old) db.0 slot (spelled (counting d)) (name_apart old db.0 slot a has own) ∙ chunk.there ∙ sym (data_callers old slot chunk) in
+    let slot_was : map slot ≡ callers_map old slot = rewritten_apart (held old) db.0 slot (spelled (counting d)) (name_apart old db.0 slot a has (λ some. owned)) ∙ chunk.there ∙ sym (data_callers old slot chunk) in
     let callers_was : reowned (callers_map old) slot owner name ≡ Some g.live = updated_apart (callers_map old) slot out name apart ∙ g.known in
     let name_was : reowned map slot owner name ≡ reowned (callers_map old) slot owner name =
     updated_apart map slot (changed (owned_by owner) (map slot)) name apart ∙ rewritten_apart (held old) db.0 name (spelled (counting d)) (given_apart old db.0 name a has g) ∙ g.there ∙ sym callers_was in

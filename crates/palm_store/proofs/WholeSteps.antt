@@ -6,6 +6,7 @@ use Rattle.palm_store.specs.declared.entries.infos.EntryInfo.TheVariants as info
 use Rattle.palm_store.proofs.Maps.{owner_held, owner_none, owner_alike, bytes_held, held_some}
 use Rattle.palm_store.proofs.ListedSlots.{chunk_of}
 use Rattle.palm_store.proofs.Creation.{appends_gained, callers_gain}
+pub use Rattle.palm_store.proofs.Creation.{few_listed}
 use Rattle.palm_store.proofs.GainedChunks.{zip_weaken, zeros_of, IsNew, gained}
 
 -- ---- what the database has data for
@@ -99,12 +100,6 @@ whole_made old new db info blocks entries names a l fits can many few free =
     }
 
 -- ---- what the call has found
-
-pub few_listed : (image : List ℕ) → length (listed image) < most_databases → length (databases image) < most_databases
-few_listed image few =
-    let count = length-numbers (databases image) in
-    let as_listed = ap length (listed_numbers image) in
-    omega (arith, count, as_listed, few)
 
 pub size_asked : (info : DbInfo) (entries : List WholeEntry) (resources : Bool) (size : ℕ) → resources ≡ has_resources info.attributes → info.entry_count ≡ length entries → size ≡ entry_offset resources info.entry_count → size ≡ whole_size info entries
 size_asked info entries resources size kind count is = is ∙ ap (λ (r : Bool). entry_offset r info.entry_count) kind ∙ ap (λ (n : ℕ). entry_offset (has_resources info.attributes) n) count
