@@ -4,8 +4,6 @@ use Rattle.heap_model.specs.declared.call.Call.TheVariants as calls
 use Rattle.heap_model.specs.declared.call.Reply.TheVariants.{Named, Refused}
 use Rattle.palm_store.specs.InfoBlocks.{block_of_image, writing_checks}
 
--- ---- the database
-
 -- it is there, and may only be read if the attributes say so
 there : (x : Option StoredDatabase) (attributes : ℕ) → OfDatabase x (λ database. database.header.attributes ≡ attributes)
     → (x ≡ None → ⊥) × (OfDatabase x (λ database. is_read_only database.header.attributes ≡ true) ↔ (is_read_only attributes ≡ true))
@@ -24,8 +22,6 @@ may_not_be_written image db attributes is set =
 
 pub known_number : (image : List ℕ) (db : Db) → IsSome (with_number (store_of image) db.0) → with_number (store_of image) db.0 ≡ None → ⊥
 known_number image db known none = let no : IsSome {T = StoredDatabase} None = rw none at known in absurd cc
-
--- ---- a block that is asked for
 
 pub no_block_there : (region : Memory) (db : Db) (which : Which) → Accepted region.bytes → (with_number (store_of region.bytes) db.0 ≡ None → ⊥) → block_of_image region.bytes db which ≡ 0 → DoesInStore region (calls.Database (InfoBlock db which)) (Refused NoInfoBlock) region
 no_block_there region db which a known none = refused region (calls.Database (InfoBlock db which)) NoInfoBlock a (inr (known, inl (none, refl)))

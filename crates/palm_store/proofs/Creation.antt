@@ -42,8 +42,7 @@ header_put old mid new slot bytes h l w long =
       others = λ name ne other. kept name ne ∙ l.others name ne (λ e. other (e ∙ sym word));
     }
 
--- ---- what was found of a name
-
+-- what was found of a name
 pub not_taken : (image given name : List ℕ) (db : ℕ) (found : Bool) → (IsTaken (store_of image) db given → IsTrue found) → found ≡ false → given ≡ name → IsTaken (store_of image) db name → ⊥
 not_taken image given name db found finds none is taken = both_ways found none (finds (subst (λ (n : List ℕ). IsTaken (store_of image) db n) (sym is) taken))
 

@@ -27,8 +27,6 @@ is_shown image name P of = by (held image name) refl of where
     | inr own ↦ record { live = live; there = e; known = callers_some image name live e own; callers = own; holds = rw (ne_eqb live.owner 0 own) at of }
   ]
 
--- ---- a chunk that is for data
-
 pub for_data : (image : List ℕ) (name : ℕ) → owner_under image name ≡ data_owner → Owned image name 15
 for_data image name own = owned image name 15 own (omega arith)
 

@@ -12,8 +12,6 @@ use Rattle.palm_store.proofs.BlockCalls.{known_number}
 use Rattle.palm_store.proofs.Creation.{directory_unlocked}
 use Rattle.palm_store.proofs.Deletion.{went, directory_kept, index_inside, drops, clears}
 
--- ---- the header goes too
-
 pub header_other : (old mid : List ℕ) (db : ℕ) → Accepted old → HasNumber old db → Leaves old mid (all_gone (held old) (named_under old db)) → db ≢ directory_of mid
 header_other old mid db a has l e = let slot = number_slot old db a has in slot.other (e ∙ l.frame.directory)
 
@@ -51,8 +49,6 @@ lists_still old mid db index a at l =
     let bytes = ap length (directory_kept old mid index (database_under old db) a s l) in
     record { heap = l.frame.accepted; some = omega (arith, l.frame.directory, directory_some old db index a at); few = omega (arith, bytes, few_bytes old a); inside = omega (arith, bytes, index_inside old index s.inside) }
 
--- ---- what stays
-
 -- no locked chunk that is left has moved
 still_left : (old mid new names : List ℕ) (index : ℕ) → HeapAccepted old → Leaves old mid (all_gone (held old) names) → Unlists mid new index → Still old new
 still_left old mid new names index h l u name live e locked there = elim (cases_eq name (directory_of old)) [
@@ -66,8 +62,6 @@ still_left old mid new names index h l u name live e locked there = elim (cases_
         | inr here ↦ absurd (no_chunk (held new name) (stays ∙ is_gone old mid names name l (omega arith)) there)
       ]
 ]
-
--- ---- the steps
 
 -- a chunk that the database names has a lock
 abbrev pub HasLocked : List ℕ → List ℕ → Type 0

@@ -5,8 +5,6 @@ use Rattle.std.proofs.lemmas.Bool.Decides.{nat_tests}
 use Rattle.palm_store.proofs.Numbers.{Stands, length-listed, length-databases}
 use Rattle.palm_store.proofs.Maps.{kept, is_gone, owner_none, owner_alike}
 
--- ---- what a database names, by the owners
-
 -- it names chunks for data alone, each once at most
 pub named_most : (image : List ℕ) (index : ℕ) (one : StoredDatabase) → Accepted image → Stands image index one → (name : ℕ) → 0 < name → times name (data_in one.database) ≤ same (owner_under image name) 15
 named_most image index one a s name some =
@@ -19,8 +17,6 @@ header_owner image index one a s =
     let number = number_at (databases image) index one s.inside ∙ ap (λ (x : StoredDatabase). x.db) (s.is one) in
     let own : owner_under image one.db ≡ 0 = ap (owner_under image) (sym number) ∙ header.owner in
     (own, λ e. header.other (number ∙ e), owned_some image one.db 0 a.heap own (omega arith))
-
--- ---- what is left of the store
 
 -- all that went: the header and what it named
 abbrev pub went : StoredDatabase → List ℕ

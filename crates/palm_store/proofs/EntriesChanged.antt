@@ -48,8 +48,6 @@ found_changed db change (x ∷ stored) one found = elim (cases_eq x.db db) [
   | inr ne ↦ rw (ne_eqb x.db db ne, ne_eqb x.db db ne) (found_changed db change stored one (rw (ne_eqb x.db db ne) at found))
 ]
 
--- ---- one entry
-
 replaced_alike : (entries : List (Entry ℕ)) (index : ℕ) (entry : Entry ℕ) (one other : Entry ℕ → Entry ℕ) → slice_get entries index ≡ Some entry → one entry ≡ other entry → replaced entries index one ≡ replaced entries index other
 replaced_alike entries index entry one other at same =
     ap (replaced_if entries index one) at ∙ ap (λ (e : Entry ℕ). slice_set entries index e) same ∙ sym (ap (replaced_if entries index other) at)

@@ -5,15 +5,11 @@ use Rattle.palm_store.proofs.DataChunks.{for_data, data_callers, data_movable, d
 use Rattle.palm_store.proofs.Maps.{owner_held}
 use Rattle.palm_store.proofs.TwoSteps.{rewritten_apart, KeepsChunks, respelled_keeps, then_changed, respelled_then, none_made, none_made_by}
 
--- ---- the number
-
 -- a name of data, or 0, is not the number
 pub name_apart : (image : List ℕ) (db name : ℕ) → Accepted image → HasNumber image db → (0 < name → owner_under image name ≡ data_owner) → name ≢ db
 name_apart image db name a has own e =
     let is = own (omega (arith, number_some image db a has)) in
     omega (arith, (number_slot image db a has).owner, ap (owner_under image) e)
-
--- ---- one database changed, and no chunk
 
 -- one with the entries of a sound one is sound, if it fits
 pub sound_like : (d other : Database ℕ) → IsSound d → DatabaseFits other → other.entries ≡ d.entries → IsSound other
@@ -26,8 +22,6 @@ sound_like d other sound fits same = record {
 pub respelled_none : (old new : List ℕ) (db : ℕ) (d : Database ℕ) → Accepted old → HasNumber old db → Respells old new db d → MakesNone old new
 respelled_none old new db d a has l =
     none_made old new db (spelled d) [] l (number_held old db a has) (All-nil (λ (one : Change). IsSome one.now → IsSome (held old one.name)))
-
--- ---- a change that is counted
 
 -- a count keeps the name and the data, and what is sound
 counted_alike : (counts : Bool) (d : Database ℕ) → (IsSound d → IsSound (counted_if counts d)) × ((counted_if counts d).header.name ≡ d.header.name) × (data_in (counted_if counts d) ≡ data_in d)
@@ -45,13 +39,11 @@ then_raised_if : (counts : Bool) (old new : List ℕ) (db : Db) (change : Databa
 then_raised_if true old new db change store leaves = then_raised old new db change store leaves
 then_raised_if false old new db change store leaves = leaves
 
--- ---- the modification number
-
+-- the modification number
 pub counting_steps : (old new : List ℕ) (db : Db) → Accepted old → HasNumber old db.0 → Respells old new db.0 (counted (database_here old db.0)) → LeavesStore old new (raised (store_of old) db)
 counting_steps old new db a has l = respell_steps old new db counted a has l (raised_sound (database_here old db.0) (accepted_sound old db.0 a has)) refl (λ q some. refl)
 
--- ---- an entry moved
-
+-- an entry moved
 pub move_steps : (old new : List ℕ) (db : Db) (from to : ℕ) → Accepted old → HasNumber old db.0 → from < length (database_here old db.0).entries → to ≤ length (database_here old db.0).entries
     → Respells old new db.0 (entry_moved from to (database_here old db.0)) → LeavesStore old new (raised (with_entries (store_of old) db (λ entries. moved entries from to)) db)
 move_steps old new db from to a has inside most l =
@@ -59,8 +51,6 @@ move_steps old new db from to a has inside most l =
     then_raised old new db (with_moved from to) (store_of old)
     (respell_steps old new db (entry_moved from to) a has l (raised_sound (with_moved from to d) (moved_sound d from to (accepted_sound old db.0 a has) inside most)) refl
     (λ q some. moved_names q d from to inside))
-
--- ---- an entry set
 
 -- a database with another entry at an index
 abbrev pub with_entry_set : ℕ → (Entry ℕ → Entry ℕ) → Database ℕ → Database ℕ
@@ -82,8 +72,6 @@ set_steps counts old new db index change entry after a has at is l fits names ow
     (subst (λ (other : Database ℕ). Respells old new db.0 (counted_if counts other)) (set_is d index change entry after at is) l)
     (alike.0 (replaced_own d index change entry (accepted_sound old db.0 a has) at fits names own)) alike.1
     (λ q some. (let same_data = ap (times q) alike.2 in let sums = replaced_names q d index change entry at in let kept = ap (λ (slot : ℕ). same slot q) slots in omega arith)))
-
--- ---- one database changed, and a chunk that it names no more
 
 -- A database changed, which names a chunk no more; that is freed, or has another owner. The change
 -- may be counted.
@@ -207,8 +195,7 @@ module _ (old mid : List ℕ) (db : Db) (index slot : ℕ) (entry : Entry ℕ) (
       let named : slot ≡ data_under (store_of old) db index = is ∙ sym (data_here old db index entry has at) in
       none (subst (λ (name : ℕ). Of (callers_map old name) IsLocked) named (subst (λ (o : Option LiveChunk). Of o IsLocked) shown locked))
 
--- ---- the data of an entry freed
-
+-- the data of an entry freed
 pub free_steps : (counts : Bool) (old mid new : List ℕ) (db : Db) (index : ℕ) (entry after : Entry ℕ) → Accepted old → HasNumber old db.0 → slice_get (database_here old db.0).entries index ≡ Some entry → after ≡ without_data entry
     → Respells old mid db.0 (entry_written counts index after (database_here old db.0)) → Leaves mid new (gone (held mid) (entry_data entry))
     → EntryFits (has_resources (database_here old db.0).header.attributes) (without_data entry) → NamesData (without_data entry) → unique_id (without_data entry) ≡ unique_id entry → entry_data (without_data entry) ≡ 0

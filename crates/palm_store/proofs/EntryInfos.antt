@@ -13,8 +13,6 @@ informed_data (infos.Record attributes id) (a_record old_attributes old_id slot)
 informed_data (infos.Resource kind id) (a_resource old_kind old_id slot) = refl
 informed_data info entry = refl
 
--- ---- it is sound
-
 pub informed_names : (image : List ℕ) (db : Db) (index : ℕ) (info : EntryInfo) (entry : Entry ℕ) → Accepted image → HasNumber image db.0 → slice_get (database_here image db.0).entries index ≡ Some entry → CanHave (store_of image) db (resources_under (store_of image) db) index info
     → NamesData (with_info info entry)
 informed_names image db index (infos.Record attributes id) (a_record old_attributes old_id slot) a has at can = λ none. can.4 (data_here image db index (a_record old_attributes old_id slot) has at ∙ none)

@@ -3,8 +3,6 @@ use Rattle.palm_store.proofs.Words.{◌≡◌, ◌≢◌, ℕ, List, [], length,
 use Rattle.palm_store.proofs.DataChunks.{is_shown, for_data, data_movable}
 use Rattle.palm_store.proofs.Maps.{owner_held, bytes_held}
 
--- ---- what callers see
-
 -- nothing under 0
 pub none_seen : (image : List ℕ) (name : ℕ) → HeapAccepted image → name ≡ 0 → [] ≡ bytes_of ((store_of image).map name)
 unfolding store_of

@@ -99,8 +99,7 @@ makes_both old mid new sizes more names others m n =
       slots = omega (arith, m.slots, n.slots, length-append (makings sizes) (makings more), ap length parts);
     }
 
--- ---- one, or none
-
+-- one, or none
 pub makes_one : (old new : List ℕ) (name size : ℕ) → HeapAccepted old → MakesNew old new name size 15 → Lowers old new (need size) → MakesAll old new (Some size ∷ []) (name ∷ [])
 makes_one old new name size h m lowers =
     let there : held new name ≡ Some (zeros_of size) = m.leaves.map name ∙ updated_here (held old) name (Some (zeros_of size)) name refl in
@@ -226,15 +225,13 @@ runs_at old mid sizes names index size m at lacks =
     let count : (length done + length here) + length rest ≡ length ((done ++ here) ++ rest) = omega (arith, length-append done here, length-append (done ++ here) rest) in
     rw parts (rw count at more)
 
--- ---- what the call that makes one answers
-
+-- what the call that makes one answers
 pub made_sized : (old new : List ℕ) (asked : Option ℕ) (size : ℕ) (result : Result Name Refusal) → asked ≡ Some size → HeapAccepted old → IfOk result (λ name. MakesNew old new name.0 size 15) → OnOk result (Lowers old new (need size))
     → IfOk result (λ name. MakesAll old new (asked ∷ []) (name.0 ∷ []))
 made_sized old new asked size (Ok name) is h m lowers = rw is (makes_one old new name.0 size h m lowers)
 made_sized old new asked size (Err refusal) is h m lowers = tt
 
--- ---- the sizes that are asked for
-
+-- the sizes that are asked for
 pub size_behind : (blocks : BlockSizes) (entries : List WholeEntry) (index : ℕ) (one : WholeEntry) → 2 ≤ index → index < 2 + length entries → size_of_data (get_or entries (index - 2) one) ≡ get_or (data_sizes blocks entries) index None
 size_behind blocks entries index one past below =
     let is : index ≡ suc (suc (index - 2)) = omega arith in

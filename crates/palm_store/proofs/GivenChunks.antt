@@ -17,8 +17,6 @@ callers image name there other =
     let owner = owner_held image name one.0 one.1 in
     record { live = one.0; there = one.1; known = callers_some image name one.0 one.1 (λ z. other (owner ∙ z)); owner = owner }
 
--- ---- what refuses it
-
 -- callers know no such chunk
 pub unknown_why : (image : List ℕ) (name : ℕ) → held image name ≡ None → FirstBrings (checks_of_giving image name) InvalidHandle
 unfolding store_of

@@ -9,8 +9,6 @@ pub use Rattle.palm_store.proofs.EntryChanges.{written_then_owned, owned_none}
 use Rattle.palm_store.proofs.NewEntries.{header, named_so, made_of, names_some, new_id}
 use Rattle.palm_store.proofs.TwoSteps.{rewritten_apart, KeepsChunks, changed_keeps, respelled_keeps, keeps_then, then_changed, none_made, none_made_by}
 
--- ---- the chunk
-
 -- a chunk of a caller's, which is movable
 abbrev pub IsGiven : List ℕ → ℕ → Type 0
 IsGiven image name = IsShown image name (λ live. (live.owner ≢ data_owner) × (live.lock ≢ fixed_lock))
@@ -105,8 +103,6 @@ attach_steps old new db at entry one kind name a has is may takes same_kind fits
   made_of old db entry name one is,
   attach_leaves old new db at entry one kind name a has is may takes same_kind fits inside few,
 )
-
--- ---- an entry that has other data
 
 -- another name leaves an entry its ID
 own_with : (entries : List (Entry ℕ)) (index name : ℕ) (entry : Entry ℕ) → HasOwnId entries index entry → HasOwnId entries index (entry_with (λ (slot : ℕ). name) entry)

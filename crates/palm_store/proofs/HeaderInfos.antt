@@ -10,8 +10,6 @@ use Rattle.palm_store.specs.HeaderInfos.{KeepsEntries}
 abbrev pub with_info : DbInfo → Database ℕ → Database ℕ
 with_info info database = record database { header = header_set info database.header }
 
--- ---- the header that is written
-
 -- what a call has found and done that sets the header of a database
 pub record Sets (old new : List ℕ) (db : ℕ) (info : DbInfo) : Type 0 where
   pub number : HasNumber old db
@@ -29,8 +27,6 @@ set_spelled body bytes info header after spelled has values keeps writes =
     let kind : has_resources after.attributes ≡ has_resources database.header.attributes = keeps.kind ∙ ap (λ (h : DatabaseHeader). has_resources h.attributes) has.values in
     let is : with_header database after ≡ with_info info database = rw (head, keeps.app_info ∙ has.app_info, keeps.sort_info ∙ has.sort_info) in
     subst (λ (d : Database ℕ). IsSpelled d (overwritten body 0 bytes)) is (writes database body spelled (keeps.entry_count ∙ has.entry_count) kind)
-
--- ---- the step
 
 has_set : (old new : List ℕ) (db : ℕ) (info : DbInfo) → Accepted old → Sets old new db info → HasStore new (record (store_of old) { databases = with_changed (store_of old).databases db (with_info info) })
 has_set old new db info a s =

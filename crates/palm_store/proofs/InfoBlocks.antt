@@ -2,12 +2,11 @@
 -- gets.
 use Rattle.palm_store.proofs.Words.{◌≡◌, ◌≢◌, ℕ, ◌+◌, ◌<◌, false, List, ◌∷◌, map, refl, sym, ap, subst, ◌∙◌, arith, inl, inr, ◌⊎◌, data_owner, u32_at, directory_of, held, same, times, reowned, callers_map, entry_data, Database, data_in, database_in, spelled, DatabaseFits, owner_under, IsInfoBlock, databases, Accepted, store_of, with_changed, IsSound, Leaves, Respells, rewritten, database_here, info_block, with_info_block, info_block_of, info_block_under, info_block_set, info_block_taken, raised, LeavesStore, Db, Which, times-cons, same-no, accepted_sound, number_database, number_here, IsMovable, HasNumber, with_block}
 use Rattle.heap_model.specs.declared.names.Which.TheVariants.{App, Sort}
+use Rattle.laws_store.proofs.NameCounts.{times-data}
 use Rattle.palm_store.proofs.DataChunks.{for_data, data_movable, data_no_directory}
 use Rattle.palm_store.proofs.EntryChanges.{name_apart, then_raised, handed_steps, sound_like}
 use Rattle.palm_store.proofs.TwoSteps.{rewritten_apart}
 use Rattle.palm_store.proofs.GivenData.{IsGiven, given_steps}
-
--- ---- what changes of the database
 
 pub same_name : (which : Which) (slot : ℕ) (d : Database ℕ) → (with_block which slot d).header.name ≡ d.header.name
 same_name App slot d = refl
@@ -15,16 +14,8 @@ same_name Sort slot d = refl
 
 -- it names the block in place of the one that it had
 pub names_block : (q : ℕ) (which : Which) (slot : ℕ) (d : Database ℕ) → times q (data_in (with_block which slot d)) + same (info_block which d) q ≡ times q (data_in d) + same slot q
-names_block q App slot d =
-    let was = times-cons q d.app_info (d.sort_info ∷ map entry_data d.entries) in
-    let now = times-cons q slot (d.sort_info ∷ map entry_data d.entries) in
-    omega arith
-names_block q Sort slot d =
-    let first = times-cons q d.app_info (d.sort_info ∷ map entry_data d.entries) in
-    let was = times-cons q d.sort_info (map entry_data d.entries) in
-    let later = times-cons q d.app_info (slot ∷ map entry_data d.entries) in
-    let now = times-cons q slot (map entry_data d.entries) in
-    omega arith
+names_block q App slot d = omega (arith, times-data q d, times-data q (with_block App slot d))
+names_block q Sort slot d = omega (arith, times-data q d, times-data q (with_block Sort slot d))
 
 -- ---- the block that there is
 
@@ -59,8 +50,7 @@ block_movable old mid db which slot d a has block l =
 pub block_no_directory : (old mid : List ℕ) (db : ℕ) (which : Which) (slot : ℕ) (d : Database ℕ) → Accepted old → IsBlock old db which slot → Respells old mid db d → slot ≢ directory_of mid
 block_no_directory old mid db which slot d a block l e = data_no_directory old slot a.heap block.some block.own (e ∙ l.frame.directory)
 
--- ---- the header that is read
-
+-- the header that is read
 pub block_read : (body : List ℕ) (which : Which) (slot : ℕ) → ((which ≡ App) × (slot ≡ u32_at body 52)) ⊎ ((which ≡ Sort) × (slot ≡ u32_at body 56)) → slot ≡ info_block which (database_in body)
 unfolding database_in
 block_read body which slot is = elim is [ inl app ↦ rw app.0 app.1 | inr sort ↦ rw sort.0 sort.1 ]

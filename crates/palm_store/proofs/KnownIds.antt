@@ -12,8 +12,6 @@ use Rattle.palm_store.proofs.EntryChanges.{with_entry_set}
 pub nothing_known : (image : List ℕ) → Accepted image → IsStore image (record { db = record { 0 = 0 }; ids = record { first = 0; end = 0 } })
 nothing_known image accepted = record { accepted = accepted; free = λ id among. absurd (omega arith) }
 
--- ---- the databases stay
-
 abbrev ids_found : List StoredDatabase → ℕ → List ℕ
 ids_found stored number = filter_map unique_id (entries_of (find (λ one. one.db == number) stored))
 
@@ -106,11 +104,12 @@ go_free old new db index known is =
     counted_free old.databases new.databases db change known is (λ id among. entries_lack id change (λ database. without_entry id index database.entries))
 
 -- the slot of its data says nothing of its ID
-pub beside_named : (store : Store) (entry : Entry ℕ) (slot : ℕ) (known : KnownIds) → StandFreeBeside store entry known → StandFreeBeside store (entry_with (λ (none : ℕ). slot) entry) known
-beside_named store (a_record attributes id none) slot known free = free
-beside_named store (a_resource kind id none) slot known free = free
+id_kept : (slot : ℕ) (entry : Entry ℕ) → unique_id (entry_with (λ (none : ℕ). slot) entry) ≡ unique_id entry
+id_kept slot (a_record attributes id none) = refl
+id_kept slot (a_resource kind id none) = refl
 
--- ---- an entry is changed
+pub beside_named : (store : Store) (entry : Entry ℕ) (slot : ℕ) (known : KnownIds) → StandFreeBeside store entry known → StandFreeBeside store (entry_with (λ (none : ℕ). slot) entry) known
+beside_named store entry slot known free = rw (id_kept slot entry) free
 
 no_id : (id : ℕ) (entry : Entry ℕ) → has_id id entry ≤ 0 → HasId id entry → ⊥
 unfolding has_id
@@ -145,12 +144,7 @@ emptied_gets known id among (a_resource kind other slot) has = has
 
 -- one with other data has its ID too
 pub named_gets : (known : KnownIds) (slot : ℕ) (change : Entry ℕ → Entry ℕ) → GetsNone known change → GetsNone known (λ entry. entry_with (λ (none : ℕ). slot) (change entry))
-named_gets known slot change gets id among entry has = gets id among entry (named_id slot (change entry) id has) where
-  named_id : (slot : ℕ) (entry : Entry ℕ) (id : ℕ) → HasId id (entry_with (λ (none : ℕ). slot) entry) → HasId id entry
-  named_id slot (a_record attributes other none) id has = has
-  named_id slot (a_resource kind other none) id has = has
-
--- ---- an entry is moved
+named_gets known slot change gets id among entry has = gets id among entry (rw (id_kept slot (change entry)) at has)
 
 moved_lack : (id from to : ℕ) (entries : List (Entry ℕ)) → Lack id entries → Lack id (moved entries from to)
 moved_lack id from to entries lack =
