@@ -1,5 +1,5 @@
 -- All records of a database with other attributes are a change of the store.
-use Rattle.palm_store.proofs.Words.{◌≡◌, ◌≢◌, ℕ, Bool, true, false, List, [], ◌∷◌, map, refl, sym, ap, subst, ◌∙◌, arith, length-map, All-nil, All-cons, All-head, All-tail, All, times, Distinct, Entry, a_record, a_resource, Database, entry_data, has_resources, EntryFits, unique_id, Accepted, store_of, IsSound, NamesData, Respells, database_here, with_attributes, with_entries, resources_under, LeavesStore, Db, accepted_sound, kind_here, respell_steps, attributes_changed, HasNumber}
+use Rattle.palm_store.proofs.Words.{◌≡◌, ℕ, Bool, false, List, [], ◌∷◌, map, refl, sym, ap, ◌∙◌, arith, length-map, All, times, Entry, a_record, a_resource, Database, entry_data, has_resources, EntryFits, unique_id, Accepted, store_of, IsSound, NamesData, Respells, database_here, with_attributes, with_entries, resources_under, LeavesStore, Db, accepted_sound, kind_here, respell_steps, attributes_changed, HasNumber}
 use Rattle.std.proofs.lemmas.List.Elements.{All-map, All-weaker}
 use Rattle.std.specs.Prelude.{filter_map}
 use Rattle.palm_store.specs.AttributeChanges.{MayChange}

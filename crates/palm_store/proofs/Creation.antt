@@ -1,5 +1,5 @@
 -- A database that was made: its header is written into the chunk that was listed last.
-use Rattle.palm_store.proofs.Words.{◌≡◌, ◌≢◌, ℕ, ◌+◌, ◌^◌, ◌<◌, ◌≤◌, Bool, true, false, List, [], ◌∷◌, ◌++◌, length, get_or, replicate, Option, Some, None, refl, sym, ap, subst, ◌∙◌, arith, length-append, inl, inr, both_ways, cases_eq, append-nil, map-append, get_or-map, length-map, All-nil, IsTrue, ◌⊎◌, if◌then◌else◌, All, filter_map, flat_map, Memory, KeepsLoan, u32_bytes, header_size, HeapAccepted, directory_of, LiveChunk, chunks_of, held, free_slots, rooms, same, times, u32s_in, Distinct, not_owned, callers_map, put, Leaves, Stuck, Entry, Database, data_in, header_bytes, entry_bytes, spelled, has_resources, IsDatabaseName, EntryFits, DatabaseFits, StoredDatabase, owner_under, directory_bytes, listed, databases, names_of, most_databases, unique_id, unique_ids, HasUniqueIds, Accepted, store_of, NamesData, IsTaken, empty_database, create_parts, create_slots, DoesInStore, Db, Refusal, NotEnoughSpace, InvalidName, AlreadyExists, TooManyEntries, Create, length-u32_bytes, read_heap, callers_managers, hidden, as_before, Appends, same-yes, same-no, times-cons, owned_slot, directory_owner, owned_some, has_databases, listed_numbers, length-numbers, get-any, directory_like, number_owner, managers_loose, none_some, u32s_push, refused, same_steps, create_steps, ListsNew, ListsWhole, IsGained, GainsZeros, all_written}
+use Rattle.palm_store.proofs.Words.{◌≡◌, ◌≢◌, ℕ, ◌+◌, ◌^◌, ◌<◌, ◌≤◌, Bool, false, List, [], ◌∷◌, ◌++◌, length, get_or, replicate, Option, Some, None, refl, sym, ap, subst, ◌∙◌, arith, length-append, inl, inr, both_ways, cases_eq, append-nil, map-append, get_or-map, length-map, All-nil, IsTrue, ◌⊎◌, if◌then◌else◌, All, flat_map, Memory, KeepsLoan, u32_bytes, header_size, HeapAccepted, directory_of, LiveChunk, chunks_of, held, free_slots, rooms, same, times, u32s_in, Distinct, not_owned, callers_map, put, Leaves, Stuck, Entry, Database, data_in, header_bytes, entry_bytes, spelled, has_resources, IsDatabaseName, EntryFits, DatabaseFits, StoredDatabase, owner_under, directory_bytes, listed, databases, names_of, most_databases, HasUniqueIds, Accepted, store_of, NamesData, IsTaken, empty_database, create_parts, create_slots, DoesInStore, Db, Refusal, NotEnoughSpace, InvalidName, AlreadyExists, TooManyEntries, Create, length-u32_bytes, read_heap, hidden, Appends, same-no, times-cons, owned_slot, directory_owner, owned_some, has_databases, listed_numbers, length-numbers, get-any, directory_like, number_owner, managers_loose, none_some, u32s_push, refused, same_steps, create_steps, ListsNew, ListsWhole, IsGained, GainsZeros, all_written}
 use Rattle.std.proofs.lemmas.Bool.Decides.{nat_tests}
 use Rattle.std.proofs.lemmas.List.Quantifiers.{all_pairs_push}
 use Rattle.heap_model.specs.declared.call.Call.TheVariants as calls

@@ -1,5 +1,5 @@
 -- Chunks for data: callers may name them, and they are movable.
-use Rattle.palm_store.proofs.Words.{◌≡◌, ◌≢◌, ℕ, ◌<◌, List, Option, Some, None, refl, ap, ◌∙◌, arith, Chunk, free, movable, fixed, fixed_lock, Spelled, data_owner, managers_owner, HeapAccepted, Of, not_owned, inl, inr, cases_eq, eq-eqb, ne_eqb, IsCallersIfFixed, directory_of, LiveChunk, NamedHere, held, callers_map, owner_of, owner_under, zero, suc, held-zero, none_some, held_finds, finds_spelled, callers_some, IsMovable, directory_owner}
+use Rattle.palm_store.proofs.Words.{◌≡◌, ◌≢◌, ℕ, ◌<◌, List, Option, Some, None, refl, ap, ◌∙◌, arith, Chunk, free, movable, fixed, fixed_lock, Spelled, data_owner, managers_owner, HeapAccepted, Of, not_owned, inl, inr, cases_eq, eq-eqb, ne_eqb, IsCallersIfFixed, directory_of, LiveChunk, NamedHere, held, callers_map, owner_under, zero, suc, held-zero, none_some, held_finds, finds_spelled, callers_some, IsMovable, directory_owner}
 use Rattle.laws_heap.proofs.AlteredChunks.{finds_callers}
 use Rattle.laws_heap.proofs.FixedNames.{fixed_live_is}
 use Rattle.palm_store.proofs.Maps.{Owned, owned}

@@ -1,5 +1,5 @@
 -- The data of an entry that takes another size: what refuses it, and what is left.
-use Rattle.palm_store.proofs.Words.{◌≡◌, ℕ, ◌+◌, ◌<◌, List, ◌∷◌, [], length, Option, sym, subst, ◌∙◌, Memory, IsLent, LiveChunk, held, need, data_owner, free_behind, ShortFor, sized, callers_map, Of, IsLocked, growth_checks, Check, ◌brings◌, NoneHolds, FirstBrings, owner_under, store_of, with_chunks, LeavesStore, Refusal, ChunkLocked, NotEnoughSpace, Lent, checks_of_data_growth, data_sized}
+use Rattle.palm_store.proofs.Words.{◌≡◌, ℕ, List, sym, ◌∙◌, Memory, held, data_owner, sized, callers_map, growth_checks, NoneHolds, FirstBrings, owner_under, store_of, with_chunks, LeavesStore, Refusal, checks_of_data_growth, data_sized}
 use Rattle.palm_store.proofs.DataChunks.{for_data, data_callers}
 
 -- callers may name data, so for it the checks are the same

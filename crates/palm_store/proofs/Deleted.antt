@@ -1,6 +1,6 @@
 -- That a database is deleted is a step of the store, and so is that a locked chunk of it forbids
 -- that.
-use Rattle.palm_store.proofs.Words.{◌≡◌, ◌≢◌, ℕ, ◌+◌, ◌*◌, ◌<◌, ◌≤◌, List, [], ◌∷◌, ◌++◌, length, Option, Some, None, refl, sym, ap, subst, ◌∙◌, arith, inl, inr, cases_eq, cases_lt, ◌==◌, if◌then◌else◌, Any, is_some, Memory, KeepsLoan, HeapAccepted, directory_of, LiveChunk, held, Still, gone, callers_map, times, Leaves, Database, data_in, Of, IsLocked, StoredDatabase, owner_of, owner_under, directory_bytes, database_under, Accepted, store_of, OfDatabase, In, all_gone, with_number, DoesInStore, Db, ChunkLocked, Delete, keeps_itself, held-zero, times-cons, times-append, managers_loose, directory_owner, drop_steps, refused, in_here, in_store, number_slot, HasNumber, IsListedAt, named_under, Unlists}
+use Rattle.palm_store.proofs.Words.{◌≡◌, ◌≢◌, ℕ, ◌+◌, ◌*◌, ◌<◌, ◌≤◌, List, [], ◌∷◌, ◌++◌, length, Some, None, refl, ap, ◌∙◌, arith, inl, inr, cases_eq, cases_lt, ◌==◌, if◌then◌else◌, Any, is_some, Memory, KeepsLoan, HeapAccepted, directory_of, held, Still, gone, callers_map, times, Leaves, Database, data_in, Of, IsLocked, StoredDatabase, owner_of, owner_under, directory_bytes, database_under, Accepted, store_of, all_gone, DoesInStore, Db, ChunkLocked, Delete, times-cons, times-append, drop_steps, refused, in_here, in_store, number_slot, HasNumber, IsListedAt, named_under, Unlists}
 use Rattle.heap_model.specs.declared.call.Call.TheVariants as calls
 use Rattle.heap_model.specs.declared.call.Reply.TheVariants as replies
 use Rattle.palm_store.proofs.Numbers.{stands, length-listed, no_directory}

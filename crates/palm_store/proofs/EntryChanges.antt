@@ -1,5 +1,5 @@
 -- Changes of one database, and of one chunk for data that it names, are changes of the store.
-use Rattle.palm_store.proofs.Words.{◌≡◌, ◌≢◌, ℕ, ◌+◌, ◌<◌, ◌≤◌, Bool, true, false, List, [], length, Option, Some, None, refl, sym, ap, subst, ◌∙◌, arith, rules, All-nil, IsSome, slice_get, slice_set, remove, data_owner, managers_owner, directory_of, LiveChunk, ChunkMap, rewritten, IsCallersChange, held, same, times, moved, updated, changed, gone, reowned, callers_map, Entry, entry_data, Database, data_in, spelled, has_resources, EntryFits, DatabaseFits, StoredDatabase, Store, owner_of, owner_under, databases, unique_id, Accepted, store_of, with_changed, IsSound, NamesData, Leaves, Respells, database_here, entry_under, data_of_entry, data_under, replaced, without_data, with_entries, entry_changed, data_freed, entry_dropped, entry_handed_over, raised, LeavesStore, MakesNone, Db, same_some, none_some, HasOwnId, changed_twice, same-no, owned_some, accepted_sound, number_slot, number_some, number_held, data_here, entry_here, entry_owner, Change, one_change, edited, gone_balance, edit_steps, each_one, respell_steps, raised_sound, replaced_is, replaced_kept, replaced_own, replaced_names, removed_sound, removed_names, moved_sound, moved_names, IsMovable, counted, counted_if, with_moved, entry_moved, entry_written, entry_removed, HasNumber, IsEntryData, HasLockedData, raised_if, Of, IsLocked}
+use Rattle.palm_store.proofs.Words.{◌≡◌, ◌≢◌, ℕ, ◌+◌, ◌<◌, ◌≤◌, Bool, true, false, List, [], length, Option, Some, None, refl, sym, ap, subst, ◌∙◌, arith, rules, All-nil, IsSome, slice_get, remove, data_owner, managers_owner, directory_of, LiveChunk, ChunkMap, rewritten, IsCallersChange, held, same, times, moved, updated, changed, gone, reowned, callers_map, Entry, entry_data, Database, data_in, spelled, has_resources, EntryFits, DatabaseFits, Store, owner_of, owner_under, databases, unique_id, Accepted, store_of, with_changed, IsSound, NamesData, Leaves, Respells, database_here, entry_under, data_of_entry, data_under, replaced, without_data, with_entries, entry_changed, data_freed, entry_dropped, entry_handed_over, raised, LeavesStore, MakesNone, Db, same_some, HasOwnId, changed_twice, same-no, owned_some, accepted_sound, number_slot, number_some, number_held, data_here, entry_here, entry_owner, Change, one_change, edited, gone_balance, edit_steps, each_one, respell_steps, raised_sound, replaced_is, replaced_kept, replaced_own, replaced_names, removed_sound, removed_names, moved_sound, moved_names, IsMovable, counted, counted_if, with_moved, entry_moved, entry_written, entry_removed, HasNumber, IsEntryData, HasLockedData, raised_if, Of, IsLocked}
 use Rattle.db_format.specs.Entries.{with_entry}
 use Rattle.palm_store.proofs.DataChunks.{for_data, data_callers, data_movable, data_no_directory}
 use Rattle.palm_store.proofs.Maps.{owner_held}

@@ -1,5 +1,5 @@
 -- An entry with another info: it names the same data, and what the info has to be makes it sound.
-use Rattle.palm_store.proofs.Words.{◌≡◌, ℕ, Bool, true, false, List, Option, Some, refl, sym, ap, subst, ◌∙◌, arith, slice_get, ◌==◌, bit_or, Entry, a_record, a_resource, entry_data, is_deleted, has_resources, EntryFits, unique_id, Accepted, store_of, NamesData, database_here, resources_under, OfEntry, deleted_bit, without_data, Db, HasOwnId, accepted_sound, entry_here, kind_here, data_here, entry_fits, entry_names, HasNumber, EntryInfo, with_info, CanHave, HasFittingInfo}
+use Rattle.palm_store.proofs.Words.{◌≡◌, ℕ, true, false, List, Option, Some, refl, sym, ap, subst, ◌∙◌, arith, slice_get, ◌==◌, bit_or, Entry, a_record, a_resource, entry_data, is_deleted, unique_id, Accepted, store_of, NamesData, database_here, resources_under, OfEntry, deleted_bit, without_data, Db, HasOwnId, accepted_sound, entry_here, kind_here, data_here, entry_fits, entry_names, HasNumber, EntryInfo, with_info, CanHave, HasFittingInfo}
 use Rattle.std.proofs.lemmas.Nat.Bits.{bit_at_or, bit_at-lt, bit_at-pow_same}
 use Rattle.std.specs.Int.{bit_at}
 use Rattle.palm_store.specs.declared.entries.infos.EntryInfo.TheVariants as infos

@@ -1,5 +1,5 @@
 -- Data that is written whole, and what callers see of the bytes of a chunk.
-use Rattle.palm_store.proofs.Words.{◌≡◌, ◌≢◌, ℕ, List, [], length, Option, Some, None, refl, sym, ap, subst, ◌∙◌, arith, inl, inr, cases_eq, managers_owner, data_owner, overwritten, HeapAccepted, LiveChunk, held, updated, changed, put, not_owned, Leaves, rewritten, Of, bytes_of, bytes_under, owner_under, Accepted, store_of, LeavesStore, held-zero, hidden, shown, change_steps, callers_change, IsMovable, IsDataName, HasDataOf, data_filled, all_written}
+use Rattle.palm_store.proofs.Words.{◌≡◌, ◌≢◌, ℕ, List, [], length, Option, Some, refl, sym, ap, ◌∙◌, arith, inl, inr, managers_owner, data_owner, HeapAccepted, LiveChunk, held, put, not_owned, Leaves, rewritten, bytes_of, bytes_under, owner_under, Accepted, store_of, LeavesStore, held-zero, shown, change_steps, callers_change, IsMovable, IsDataName, HasDataOf, data_filled, all_written}
 use Rattle.palm_store.proofs.DataChunks.{is_shown, for_data, data_movable}
 use Rattle.palm_store.proofs.Maps.{owner_held, bytes_held}
 

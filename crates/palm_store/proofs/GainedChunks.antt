@@ -1,6 +1,6 @@
 -- Chunks of zeros that were made for data: one, several one after the other, and all of them freed
 -- again.
-use Rattle.palm_store.proofs.Words.{◌≡◌, ◌≢◌, ℕ, suc, ◌+◌, ◌-◌, ◌<◌, ◌≤◌, List, [], ◌∷◌, ◌++◌, length, get_or, set, take, drop, replicate, Option, Some, None, refl, sym, ap, subst, ◌∙◌, arith, length-append, inl, inr, cases_eq, map-append, get_or-map, length-map, take-map, take-append-drop, take_more, take_more_set, IsSome, IfOk, OnOk, Ok, Err, is_some, AllZip, need, HeapAccepted, directory_of, LiveChunk, ChunkMap, Of, IsLocked, held, rooms, times, gone, Part, Lowers, Leaves, none_some, same-least, owner_under, all_gone, Name, Refusal, BlockSizes, frame_then, held-zero, same-yes, same-no, times-cons, times-append, directory_owner, slots_made, MakesNew, IsMovable, makings, WholeEntry, size_of_data, data_sizes, numbers_in, IsGained, GainsZeros, RunsOut, Spends, MakesAll, AreOwnChunks}
+use Rattle.palm_store.proofs.Words.{◌≡◌, ◌≢◌, ℕ, suc, ◌+◌, ◌-◌, ◌<◌, ◌≤◌, List, [], ◌∷◌, ◌++◌, length, get_or, set, take, drop, replicate, Option, Some, None, refl, sym, ap, subst, ◌∙◌, arith, length-append, inl, inr, cases_eq, map-append, get_or-map, length-map, take-map, take-append-drop, take_more, take_more_set, IfOk, OnOk, Ok, Err, is_some, AllZip, need, HeapAccepted, directory_of, LiveChunk, ChunkMap, Of, IsLocked, held, rooms, times, gone, Part, Lowers, Leaves, none_some, same-least, owner_under, all_gone, Name, Refusal, BlockSizes, frame_then, held-zero, same-yes, same-no, times-cons, times-append, directory_owner, slots_made, MakesNew, IsMovable, makings, WholeEntry, size_of_data, data_sizes, numbers_in, IsGained, GainsZeros, RunsOut, Spends, MakesAll, AreOwnChunks}
 use Rattle.std.specs.Prelude.{Result}
 use Rattle.laws_store.proofs.Edited.{here as updated_here, apart as updated_apart}
 use Rattle.palm_store.proofs.Maps.{gone_out, gone_in, kept, owner_none, held_some, still_through}

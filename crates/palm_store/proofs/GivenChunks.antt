@@ -1,5 +1,5 @@
 -- Whether a database can take a chunk: what refuses it, by the chunk's owner and its locks.
-use Rattle.palm_store.proofs.Words.{◌≡◌, ◌≢◌, ℕ, List, [], ◌∷◌, Option, Some, None, refl, sym, ap, subst, ◌∙◌, arith, inl, inr, IsSome, fixed_lock, data_owner, managers_owner, LiveChunk, held, not_owned, callers_map, Of, Check, ◌brings◌, NoneHolds, FirstBrings, owner_of, owner_under, store_of, InvalidHandle, OwnedByDatabase, ChunkFixed, hidden, callers_some, MayBeGiven, checks_of_giving}
+use Rattle.palm_store.proofs.Words.{◌≡◌, ◌≢◌, ℕ, List, Some, None, refl, sym, ap, ◌∙◌, arith, inl, inr, IsSome, fixed_lock, data_owner, managers_owner, LiveChunk, held, not_owned, callers_map, Of, NoneHolds, FirstBrings, owner_under, store_of, InvalidHandle, OwnedByDatabase, ChunkFixed, hidden, callers_some, MayBeGiven, checks_of_giving}
 use Rattle.mem_manager.proofs.StepWords.{of_known, not_of_known, is_known}
 use Rattle.palm_store.proofs.Maps.{owner_held}
 use Rattle.palm_store.proofs.TwoChanges.{is_there}

@@ -1,13 +1,13 @@
 -- A caller's chunk that becomes the data of an entry: of a new one, or of one that hands over the
 -- data that it had.
-use Rattle.palm_store.proofs.Words.{◌≡◌, ◌≢◌, ℕ, zero, suc, ◌+◌, ◌<◌, ◌≤◌, Bool, true, List, [], ◌∷◌, length, Option, Some, None, refl, sym, ap, subst, ◌∙◌, arith, rules, inl, inr, cases_eq, All-nil, All-cons, IsSome, slice_get, need, fixed_lock, managers_owner, data_owner, HeapAccepted, directory_of, LiveChunk, ChunkMap, held, same, times, updated, changed, reowned, not_owned, callers_map, Of, rooms, ShortFor, growth_part, Stuck, entry_size, Entry, a_record, a_resource, entry_data, entry_with, Database, data_in, spelled, has_resources, EntryFits, owner_of, bytes_under, owner_under, databases, Accepted, store_of, with_changed, IsSound, Leaves, Respells, rewritten, SpellsHere, database_here, most_entries, entries_in, data_under, resources_under, with_entry_at, entry_attached, data_exchanged, entry_swapped, raised, LeavesStore, MakesNone, Db, none_some, same_some, held-zero, HasOwnId, Change, IsCallersChange, inserted_sound, inserted_names, raised_sound, replaced_own, replaced_names, seeded_name, hidden, shown, one_change, edited, made_balance, exchanged_balance, edit_steps, each_one, accepted_sound, number_slot, number_held, data_here, entries_here, kind_here, directory_owner, one_grown, IsMovable, counted, entry_inserted, entry_written, HasNoRoomForEntry, HasNumber, NewEntry, IsMadeOf, TakesIn, MayBeGiven}
+use Rattle.palm_store.proofs.Words.{◌≡◌, ◌≢◌, ℕ, ◌+◌, ◌<◌, ◌≤◌, Bool, true, List, [], ◌∷◌, length, Option, Some, refl, sym, ap, subst, ◌∙◌, arith, rules, All-nil, All-cons, IsSome, slice_get, need, fixed_lock, data_owner, HeapAccepted, directory_of, LiveChunk, ChunkMap, held, same, times, updated, changed, reowned, callers_map, rooms, ShortFor, growth_part, Stuck, entry_size, Entry, a_record, a_resource, entry_data, entry_with, Database, data_in, spelled, has_resources, EntryFits, owner_of, bytes_under, owner_under, databases, Accepted, store_of, with_changed, IsSound, Leaves, Respells, rewritten, SpellsHere, database_here, most_entries, entries_in, data_under, resources_under, with_entry_at, entry_attached, data_exchanged, entry_swapped, raised, LeavesStore, MakesNone, Db, HasOwnId, Change, IsCallersChange, inserted_sound, inserted_names, raised_sound, replaced_own, replaced_names, seeded_name, one_change, edited, made_balance, exchanged_balance, edit_steps, each_one, accepted_sound, number_slot, number_held, data_here, entries_here, kind_here, directory_owner, one_grown, IsMovable, counted, entry_inserted, entry_written, HasNoRoomForEntry, HasNumber, NewEntry, IsMadeOf, TakesIn, MayBeGiven}
 use Rattle.laws_store.proofs.Edited.{apart as updated_apart}
 use Rattle.palm_store.proofs.Maps.{owner_held}
 use Rattle.palm_store.proofs.DataChunks.{IsShown, is_shown, name_some, for_data, data_callers}
 use Rattle.palm_store.proofs.EntryChanges.{name_apart, then_raised, with_entry_set, set_is, slot_owner, slot_some, owned_by, then_reowned, reowned_change}
 pub use Rattle.palm_store.proofs.EntryChanges.{written_then_owned, owned_none}
 use Rattle.palm_store.proofs.NewEntries.{header, named_so, made_of, names_some, new_id}
-use Rattle.palm_store.proofs.TwoSteps.{rewritten_apart, KeepsChunks, changed_keeps, respelled_keeps, keeps_then, then_changed, none_made, none_made_by}
+use Rattle.palm_store.proofs.TwoSteps.{rewritten_apart, changed_keeps, respelled_keeps, keeps_then, none_made}
 
 -- a chunk of a caller's, which is movable
 abbrev pub IsGiven : List ℕ → ℕ → Type 0

@@ -1,5 +1,5 @@
 -- A header that is set: its bytes are written over the old ones, and nothing else changes.
-use Rattle.palm_store.proofs.Words.{◌≡◌, ℕ, List, length, refl, sym, ap, subst, ◌∙◌, inl, overwritten, Memory, KeepsLoan, held, put, Leaves, database_here, DatabaseHeader, Entry, Database, has_resources, IsDatabaseName, IsSpelled, database_in, bytes_under, Accepted, store_of, with_changed, IsTaken, header_set, DoesInStore, IsSound, Db, DbInfo, SetInfo, HasStore, accepted_sound, put_respells, rename_steps, DbHeader, header_values, IsHeaderOf, with_header, WritesHeader, HasNumber}
+use Rattle.palm_store.proofs.Words.{◌≡◌, ℕ, List, refl, ap, subst, ◌∙◌, inl, overwritten, Memory, KeepsLoan, held, put, Leaves, database_here, DatabaseHeader, Database, has_resources, IsDatabaseName, IsSpelled, database_in, bytes_under, Accepted, store_of, with_changed, IsTaken, header_set, DoesInStore, Db, DbInfo, SetInfo, HasStore, accepted_sound, put_respells, rename_steps, DbHeader, header_values, IsHeaderOf, with_header, WritesHeader, HasNumber}
 use Rattle.heap_model.specs.declared.call.Call.TheVariants as calls
 use Rattle.heap_model.specs.declared.call.Reply.TheVariants as replies
 use Rattle.palm_store.proofs.BlockCalls.{known_number}

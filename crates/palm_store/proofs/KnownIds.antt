@@ -1,5 +1,5 @@
 -- IDs that are known to be free: which changes of a store leave them free.
-use Rattle.palm_store.proofs.Words.{◌≡◌, ◌≢◌, ◌≤◌, ◌++◌, ◌⊎◌, if◌then◌else◌, All, All-append, ℕ, suc, List, [], ◌∷◌, take, drop, Option, Some, None, Bool, true, false, ◌+◌, ◌-◌, set, subst, refl, sym, ap, ◌∙◌, arith, inl, inr, cases_eq, cases_lt, eq-eqb, ne_eqb, drop_all, take_all, append-nil, take-append-drop, take-nil, sum_by-insert, sum_by-remove, sum_by-set, get_or-le-sum_by, slice_get_within, get_or_from_slice_get, ◌==◌, slice_get, slice_range, find, filter_map, remove, insert_slice, times, insertion_index, moved, Database, Entry, a_record, a_resource, entry_with, database_in, StoredDatabase, Store, unique_id, unique_ids, bytes_under, Accepted, store_of, with_changed, with_number, entries_of, with_entry_at, HasId, counted, replaced, replaced_if, entry_changed, without_data, Db, cond-true, cond-false, same-yes, same-no, replaced_is, has_id, times-ids, entries_here, attributes_changed, HasNumber, with_info, raised_if, ids_in, StandFree, StandFreeBeside, GetsNone, IsStore, KnownIds}
+use Rattle.palm_store.proofs.Words.{◌≡◌, ◌≢◌, ◌≤◌, ◌++◌, ◌⊎◌, if◌then◌else◌, All, All-append, ℕ, suc, List, [], ◌∷◌, take, drop, Option, Some, None, Bool, true, false, ◌+◌, ◌-◌, subst, refl, sym, ap, ◌∙◌, arith, inl, inr, cases_eq, eq-eqb, ne_eqb, sum_by-insert, get_or-le-sum_by, slice_get_within, get_or_from_slice_get, ◌==◌, slice_get, slice_range, find, filter_map, remove, times, insertion_index, moved, Database, Entry, a_record, a_resource, entry_with, database_in, StoredDatabase, Store, unique_id, unique_ids, bytes_under, Accepted, store_of, with_changed, with_number, entries_of, with_entry_at, HasId, counted, replaced_if, entry_changed, without_data, Db, same-yes, same-no, has_id, times-ids, entries_here, attributes_changed, HasNumber, with_info, raised_if, ids_in, StandFree, StandFreeBeside, GetsNone, IsStore, KnownIds}
 use Rattle.std.proofs.lemmas.List.Elements.{All-set, All-take, All-drop}
 use Rattle.std.proofs.lemmas.List.Sums.{sum_by-le}
 use Rattle.fresh_ids.specs.FreeIds.{IsInRange, AreFree, IsWithout}

@@ -1,13 +1,10 @@
 -- A whole database that was made is a step of the store: it comes after the others, and its data to
 -- the map.
-use Rattle.palm_store.proofs.Words.{◌≡◌, ◌≢◌, ℕ, ◌+◌, ◌<◌, Bool, List, [], ◌∷◌, ◌++◌, length, map, drop, Option, Some, None, refl, sym, ap, subst, ◌∙◌, arith, length-append, inl, inr, cases_eq, All-nil, All-cons, All-head, All-tail, ◌⊎◌, All, AllZip, filter_map, u32_bytes, HeapAccepted, directory_of, LiveChunk, ChunkMap, held, same, times, u32s_in, Distinct, not_owned, callers_map, Database, data_in, entry_data, spelled, has_resources, DatabaseFits, entry_offset, StoredDatabase, owner_of, owner_under, directory_bytes, listed, databases, most_databases, unique_id, HasUniqueIds, Accepted, store_of, NamesData, IsTaken, DbInfo, length-u32_bytes, Appends, same-yes, same-no, directory_owner, has_databases, listed_numbers, length-numbers, u32s_push, hidden, has_store, BlockSizes, WholeEntry, size_of_data, data_sizes, CanCome, id_asked, CanBeWhole, entries_named, whole_database, whole_size, IsGained, GainsZeros, MakesWhole, ListsWhole}
+use Rattle.palm_store.proofs.Words.{◌≡◌, ◌≢◌, ℕ, ◌+◌, ◌<◌, Bool, List, [], ◌∷◌, ◌++◌, length, map, drop, Some, None, refl, sym, ap, subst, ◌∙◌, arith, inl, inr, All-nil, All-cons, All-head, All-tail, All, AllZip, filter_map, ChunkMap, held, same, times, Distinct, callers_map, data_in, entry_data, spelled, has_resources, DatabaseFits, entry_offset, StoredDatabase, listed, databases, most_databases, unique_id, HasUniqueIds, Accepted, store_of, NamesData, IsTaken, DbInfo, Appends, has_databases, has_store, BlockSizes, WholeEntry, size_of_data, data_sizes, CanCome, id_asked, CanBeWhole, entries_named, whole_database, whole_size, IsGained, MakesWhole, ListsWhole}
 use Rattle.laws_store.proofs.Listed as listed
 use Rattle.palm_store.specs.declared.entries.infos.EntryInfo.TheVariants as infos
-use Rattle.palm_store.proofs.Maps.{owner_held, owner_none, owner_alike, bytes_held, held_some}
-use Rattle.palm_store.proofs.ListedSlots.{chunk_of}
 use Rattle.palm_store.proofs.Creation.{appends_gained, callers_gain}
 pub use Rattle.palm_store.proofs.Creation.{few_listed}
-use Rattle.palm_store.proofs.GainedChunks.{zip_weaken, zeros_of, IsNew, gained}
 
 -- ---- what the database has data for
 
