@@ -1,5 +1,6 @@
 -- All records of a database with other attributes are a change of the store.
-use Rattle.palm_store.proofs.Words.{◌≡◌, ◌≢◌, ℕ, Bool, true, false, List, [], ◌∷◌, map, refl, sym, ap, subst, ◌∙◌, arith, length-map, All-nil, All-cons, All-head, All-tail, All, times, Distinct, Entry, a_record, a_resource, Database, entry_data, has_resources, EntryFits, unique_id, Accepted, store_of, IsSound, NamesData, Respells, database_here, with_attributes, with_entries, resources_under, LeavesStore, Db, accepted_sound, kind_here, respell_steps, attributes_changed, HasNumber}
+use Rattle.palm_store.proofs.Words.{◌≡◌, ℕ, Bool, false, List, [], ◌∷◌, map, refl, sym, ap, ◌∙◌, arith, length-map, All, times, Entry, a_record, a_resource, Database, entry_data, has_resources, EntryFits, unique_id, Accepted, store_of, IsSound, NamesData, Respells, database_here, with_attributes, with_entries, resources_under, LeavesStore, Db, accepted_sound, kind_here, respell_steps, attributes_changed, HasNumber}
+use Rattle.std.proofs.lemmas.List.Elements.{All-map, All-weaker}
 use Rattle.std.specs.Prelude.{filter_map}
 use Rattle.palm_store.specs.AttributeChanges.{MayChange}
 
@@ -15,25 +16,16 @@ ids_kept change (a_record attributes id slot ∷ entries) = ap (λ (ids : List �
 ids_kept change (a_resource kind id slot ∷ entries) = ids_kept change entries
 
 -- each entry fits, and has data if it is not deleted
-one_fits : (change : ℕ → ℕ) (resources : Bool) (entry : Entry ℕ) → MayChange change → EntryFits resources entry → EntryFits resources (with_attributes change entry)
-one_fits change false (a_record attributes id slot) may fits = (may.fits attributes fits.0, fits.1, fits.2)
-one_fits change true (a_record attributes id slot) may fits = absurd fits
-one_fits change false (a_resource kind id slot) may fits = absurd fits
-one_fits change true (a_resource kind id slot) may fits = fits
+one_fits : (change : ℕ → ℕ) (entry : Entry ℕ) (resources : Bool) → MayChange change → EntryFits resources entry → EntryFits resources (with_attributes change entry)
+one_fits change (a_record attributes id slot) false may fits = (may.fits attributes fits.0, fits.1, fits.2)
+one_fits change entry resources may fits = fits
 
 one_names : (change : ℕ → ℕ) (entry : Entry ℕ) → MayChange change → NamesData entry → NamesData (with_attributes change entry)
 one_names change (a_record attributes id slot) may names = λ none. may.deleted attributes (names none)
 one_names change (a_resource kind id slot) may names = names
 
-all_fit : (change : ℕ → ℕ) (resources : Bool) (entries : List (Entry ℕ)) → MayChange change → All (EntryFits resources) entries → All (EntryFits resources) (map (with_attributes change) entries)
-all_fit change resources [] may all = All-nil (EntryFits resources)
-all_fit change resources (entry ∷ entries) may all =
-    All-cons (EntryFits resources) (with_attributes change entry) (map (with_attributes change) entries) (one_fits change resources entry may (All-head (EntryFits resources) entry entries all)) (all_fit change resources entries may (All-tail (EntryFits resources) entry entries all))
-
-all_name : (change : ℕ → ℕ) (entries : List (Entry ℕ)) → MayChange change → All NamesData entries → All NamesData (map (with_attributes change) entries)
-all_name change [] may all = All-nil NamesData
-all_name change (entry ∷ entries) may all =
-    All-cons NamesData (with_attributes change entry) (map (with_attributes change) entries) (one_names change entry may (All-head NamesData entry entries all)) (all_name change entries may (All-tail NamesData entry entries all))
+each_changed : (P : Entry ℕ → Type 0) (change : ℕ → ℕ) (entries : List (Entry ℕ)) → ((entry : Entry ℕ) → P entry → P (with_attributes change entry)) → All P entries → All P (map (with_attributes change) entries)
+each_changed P change entries one all = All-map P (with_attributes change) entries (All-weaker P (λ entry. P (with_attributes change entry)) one entries all)
 
 changed_sound : (change : ℕ → ℕ) (d : Database ℕ) → MayChange change → IsSound d → IsSound (attributes_changed change d)
 changed_sound change d may s = record {
@@ -42,13 +34,13 @@ changed_sound change d may s = record {
     header = s.fits.header;
     app_info = s.fits.app_info;
     sort_info = s.fits.sort_info;
-    entries = all_fit change (has_resources d.header.attributes) d.entries may s.fits.entries;
-    entry_count = (let few = s.fits.entry_count in let len = length-map d.entries (with_attributes change) in omega arith);
+    entries = each_changed (EntryFits (has_resources d.header.attributes)) change d.entries (λ entry. one_fits change entry (has_resources d.header.attributes) may) s.fits.entries;
+    entry_count = (let few = s.fits.entry_count in omega (arith, length-map d.entries (with_attributes change)));
   };
-  entries = all_name change d.entries may s.entries;
+  entries = each_changed NamesData change d.entries (λ entry. one_names change entry may) s.entries;
   ids = record {
-    none_zero = subst (λ (ids : List ℕ). All (λ id. id ≢ 0) ids) (sym (ids_kept change d.entries)) s.ids.none_zero;
-    distinct = subst (λ (ids : List ℕ). Distinct ids) (sym (ids_kept change d.entries)) s.ids.distinct;
+    none_zero = rw (ids_kept change d.entries) s.ids.none_zero;
+    distinct = rw (ids_kept change d.entries) s.ids.distinct;
   };
 }
 

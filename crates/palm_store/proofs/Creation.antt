@@ -1,14 +1,23 @@
 -- A database that was made: its header is written into the chunk that was listed last.
-use Rattle.palm_store.proofs.Words.{◌≡◌, ◌≢◌, ℕ, ◌+◌, ◌^◌, ◌<◌, ◌≤◌, Bool, true, false, List, [], ◌∷◌, ◌++◌, length, get_or, replicate, Option, Some, None, refl, sym, ap, subst, ◌∙◌, arith, length-append, inl, inr, both_ways, cases_eq, append-nil, map-append, get_or-map, length-map, All-nil, IsTrue, ◌⊎◌, if◌then◌else◌, All, filter_map, flat_map, Memory, KeepsLoan, u32_bytes, header_size, HeapAccepted, directory_of, LiveChunk, chunks_of, held, free_slots, rooms, same, times, u32s_in, Distinct, not_owned, callers_map, put, Leaves, Stuck, Entry, Database, data_in, header_bytes, entry_bytes, spelled, has_resources, IsDatabaseName, EntryFits, DatabaseFits, StoredDatabase, owner_under, directory_bytes, listed, databases, names_of, most_databases, unique_id, unique_ids, HasUniqueIds, Accepted, store_of, NamesData, IsTaken, empty_database, create_parts, create_slots, DoesInStore, Db, Refusal, NotEnoughSpace, InvalidName, AlreadyExists, TooManyEntries, Create, length-u32_bytes, read_heap, callers_managers, as_before, Appends, same-yes, same-no, times-cons, owned_slot, directory_owner, owned_some, has_databases, listed_numbers, length-numbers, get-any, directory_like, number_owner, managers_loose, u32s_push, refused, create_steps, ListsNew, all_written}
+use Rattle.palm_store.proofs.Words.{◌≡◌, ◌≢◌, ℕ, ◌+◌, ◌^◌, ◌<◌, ◌≤◌, Bool, false, List, [], ◌∷◌, ◌++◌, length, get_or, replicate, Option, Some, None, refl, sym, ap, subst, ◌∙◌, arith, length-append, inl, inr, both_ways, cases_eq, append-nil, map-append, get_or-map, length-map, All-nil, IsTrue, ◌⊎◌, if◌then◌else◌, All, flat_map, Memory, KeepsLoan, u32_bytes, header_size, HeapAccepted, directory_of, LiveChunk, chunks_of, held, free_slots, rooms, same, times, u32s_in, Distinct, not_owned, callers_map, put, Leaves, Stuck, Entry, Database, data_in, header_bytes, entry_bytes, spelled, has_resources, IsDatabaseName, EntryFits, DatabaseFits, StoredDatabase, owner_under, directory_bytes, listed, databases, names_of, most_databases, HasUniqueIds, Accepted, store_of, NamesData, IsTaken, empty_database, create_parts, create_slots, DoesInStore, Db, Refusal, NotEnoughSpace, InvalidName, AlreadyExists, TooManyEntries, Create, length-u32_bytes, read_heap, hidden, Appends, same-no, times-cons, owned_slot, directory_owner, owned_some, has_databases, listed_numbers, length-numbers, get-any, directory_like, number_owner, managers_loose, none_some, u32s_push, refused, same_steps, create_steps, ListsNew, ListsWhole, IsGained, GainsZeros, all_written}
+use Rattle.std.proofs.lemmas.Bool.Decides.{nat_tests}
 use Rattle.std.proofs.lemmas.List.Quantifiers.{all_pairs_push}
 use Rattle.heap_model.specs.declared.call.Call.TheVariants as calls
 use Rattle.heap_model.specs.declared.call.Reply.TheVariants as replies
 use Rattle.laws_heap.proofs.Slots.{slot_facts}
-use Rattle.laws_store.proofs.ChangeSteps.{same_steps}
+use Rattle.laws_store.proofs.CallSteps.{changes}
+use Rattle.palm_store.proofs.NewEntries.{left_as_before}
+use Rattle.palm_store.proofs.DataChunks.{name_some}
+use Rattle.palm_store.proofs.GainedChunks.{zip_weaken, zeros_of, IsNew, gained}
 use Rattle.palm_store.proofs.Maps.{owner_held, owner_none, owner_alike, bytes_held, owned, held_some, still_through}
 use Rattle.palm_store.proofs.ListedSlots.{chunk_of, put_here, put_apart, lock_of}
 
--- ---- the header is written
+-- the directory has no lock
+pub directory_unlocked : (image : List ℕ) (name : ℕ) (live : LiveChunk) → HeapAccepted image → held image name ≡ Some live → name ≡ directory_of image → live.lock ≡ 0
+directory_unlocked image name live h e is =
+    let some = name_some image name live h e in
+    let o = owned image name 0 (ap (owner_under image) is ∙ directory_owner image h (omega arith)) (omega arith) in
+    lock_of image name o.live live o.there (managers_loose image name o.live h o.there o.own) e
 
 pub header_put : (old mid new : List ℕ) (slot : ℕ) (bytes : List ℕ) → HeapAccepted old → ListsNew old mid slot (replicate header_size 0) → Leaves mid new (put (held mid) slot 0 bytes) → length bytes ≡ 78 → ListsNew old new slot bytes
 header_put old mid new slot bytes h l w long =
@@ -19,10 +28,10 @@ header_put old mid new slot bytes h l w long =
       accepted = w.frame.accepted;
       len = w.frame.len ∙ l.len;
       tables = w.frame.tables ∙ l.tables;
-      still = still_through old mid new l.still w.still (λ name live e locked. l.others name (λ same_slot. fresh_there (held old name) live e (ap (held old) same_slot ∙ l.fresh))
+      still = still_through old mid new l.still w.still (λ name live e locked. l.others name (λ same_slot. none_some (held old name) live (ap (held old) same_slot ∙ l.fresh) e)
           (λ directory. elim l.directory [
-            | inl stays ↦ (let was : name ≡ directory_of old = directory ∙ stays in let some = l.some in absurd (loose_directory name live e locked was (omega arith)))
-            | inr begins ↦ absurd (fresh_there (held old name) live e (ap (held old) directory ∙ begins.1))
+            | inl stays ↦ (let loose = directory_unlocked old name live h e (directory ∙ stays) in absurd (omega arith))
+            | inr begins ↦ none_some (held old name) live (ap (held old) directory ∙ begins.1) e
           ]) ∙ e);
       some = let some = l.some in omega arith;
       directory = elim l.directory [ inl stays ↦ inl (word ∙ stays) | inr begins ↦ inr (begins.0, ap (held old) word ∙ begins.1) ];
@@ -31,15 +40,9 @@ header_put old mid new slot bytes h l w long =
       apart = λ e. l.apart (e ∙ word);
       chunk = put_here mid new slot 0 bytes (chunk_of (replicate header_size 0)) w l.chunk ∙ ap (λ (xs : List ℕ). Some (chunk_of xs)) (all_written (replicate 78 0) bytes long);
       others = λ name ne other. kept name ne ∙ l.others name ne (λ e. other (e ∙ sym word));
-    } where
-      fresh_there : (o : Option LiveChunk) (live : LiveChunk) → o ≡ Some live → o ≡ None → ⊥
-      fresh_there o live e f = cc
+    }
 
-      loose_directory : (name : ℕ) (live : LiveChunk) → held old name ≡ Some live → 0 < live.lock → name ≡ directory_of old → 0 < directory_of old → ⊥
-      loose_directory name live e locked is some = let o = owned old name 0 (ap (owner_under old) is ∙ directory_owner old h some) (omega arith) in let none = lock_of old name o.live live o.there (managers_loose old name o.live h o.there o.own) e in omega arith
-
--- ---- what was found of a name
-
+-- what was found of a name
 pub not_taken : (image given name : List ℕ) (db : ℕ) (found : Bool) → (IsTaken (store_of image) db given → IsTrue found) → found ≡ false → given ≡ name → IsTaken (store_of image) db name → ⊥
 not_taken image given name db found finds none is taken = both_ways found none (finds (subst (λ (n : List ℕ). IsTaken (store_of image) db n) (sym is) taken))
 
@@ -58,9 +61,8 @@ pub names_apart : (image name : List ℕ) → Accepted image → (IsTaken (store
 unfolding store_of
 names_apart image name a free k d inside e =
     let one : StoredDatabase = get_or (databases image) k d in
-    let own = number_owner image (databases image) k d (has_databases image a) inside in
-    let some = owned_some image one.db 0 a.heap own (omega arith) in
-    free (k, one, inside, get-any (databases image) k one d inside, (λ z. (let low = some in omega arith), e))
+    let some = owned_some image one.db 0 a.heap (number_owner image (databases image) k d (has_databases image a) inside) (omega arith) in
+    free (k, one, inside, get-any (databases image) k one d inside, (λ z. omega arith, e))
 
 pub own_names : (image : List ℕ) (one : StoredDatabase) → Accepted image → (IsTaken (store_of image) 0 one.database.header.name → ⊥) → Distinct (names_of (databases image ++ one ∷ []))
 own_names image one a free =
@@ -70,138 +72,99 @@ own_names image one a free =
     (λ k n below e. names_apart image one.database.header.name a free k one (omega arith) (sym (get_or-map (λ (x : StoredDatabase). x.database.header.name) (databases image) k one n (omega arith)) ∙ e)))
 
 none_named : (name : ℕ) → 0 < name → times name (0 ∷ 0 ∷ []) ≡ 0
-none_named name some =
-    let one = times-cons name 0 (0 ∷ []) in
-    let two = times-cons name 0 [] in
-    let no = same-no 0 name (λ e. omega arith) in
-    omega arith
+none_named name some = omega (arith, times-cons name 0 (0 ∷ []), times-cons name 0 [], same-no 0 name (λ e. omega arith))
 
--- who owns each name, before and after
-pub counted : (old new : List ℕ) (slot name : ℕ) → HeapAccepted old → HeapAccepted new → 0 < directory_of new → slot ≢ directory_of new → 0 < name → owner_under new slot ≡ 0 → owner_under old slot ≡ 16 → owner_under new (directory_of new) ≡ 0
-    → (directory_of new ≡ directory_of old) ⊎ ((directory_of old ≡ 0) × (owner_under old (directory_of new) ≡ 16)) → (name ≢ slot → name ≢ directory_of new → same (owner_under new name) 0 ≡ same (owner_under old name) 0)
-    → same name slot + same name (directory_of new) + same (owner_under old name) 0 ≡ same name (directory_of old) + same (owner_under new name) 0
-counted old new slot name h is low apart positive own was directory begins others = elim (cases_eq name slot) [
-  | inl e ↦
-      let one = same-yes name slot e in
-      let two = same-no name (directory_of new) (λ f. apart (sym e ∙ f)) in
-      let now : owner_under new name ≡ 0 = ap (owner_under new) e ∙ own in
-      let past : owner_under old name ≡ 16 = ap (owner_under old) e ∙ was in
-      let three = same-no (owner_under old name) 0 (λ z. omega arith) in
-      let four = same-yes (owner_under new name) 0 now in
-      let five = same-no name (directory_of old) (λ f. elim begins [
-        | inl stays ↦ apart (sym e ∙ f ∙ sym stays)
-        | inr none ↦ (let zero_is = none.0 in omega arith)
-      ]) in
-      omega arith
-  | inr ne ↦ elim (cases_eq name (directory_of new)) [
-    | inl e ↦
-        let one = same-no name slot ne in
-        let two = same-yes name (directory_of new) e in
-        let now : owner_under new name ≡ 0 = ap (owner_under new) e ∙ directory in
-        let four = same-yes (owner_under new name) 0 now in
-        elim begins [
-          | inl stays ↦
-              let past : owner_under old name ≡ 0 = ap (owner_under old) (e ∙ stays) ∙ directory_owner old h (omega arith) in
-              let three = same-yes (owner_under old name) 0 past in
-              let five = same-yes name (directory_of old) (e ∙ stays) in
-              omega arith
-          | inr none ↦
-              let past : owner_under old name ≡ 16 = ap (owner_under old) e ∙ none.1 in
-              let three = same-no (owner_under old name) 0 (λ z. omega arith) in
-              let zero_is = none.0 in
-              let five = same-no name (directory_of old) (λ f. omega arith) in
-              omega arith
-        ]
-    | inr other ↦
-        let one = same-no name slot ne in
-        let two = same-no name (directory_of new) other in
-        let kept = others ne other in
-        let five = same-no name (directory_of old) (λ f. elim begins [
-          | inl stays ↦ other (f ∙ sym stays)
-          | inr none ↦ (let zero_is = none.0 in omega arith)
-        ]) in
-        omega arith
-  ]
-]
+-- how a name counts afterwards, by its owners: `o` before, and `n` afterwards
+owners_gained : (name slot was directory o n t : ℕ) → 0 < name → slot ≢ directory → (name ≡ slot → (o ≡ 16) × (n ≡ 0)) → (name ≡ directory → n ≡ 0) → (name ≡ was → o ≡ 0)
+    → (directory ≡ was) ⊎ ((was ≡ 0) × (name ≡ directory → o ≡ 16)) → (0 < t → (t ≤ 1) × (o ≡ 16) × (n ≡ 15)) → (name ≢ slot → name ≢ directory → t ≡ 0 → n ≡ o)
+    → (same name slot + same name directory + same o 0 ≡ same name was + same n 0) × (t + same o 15 ≡ same n 15)
+owners_gained name slot was directory o n t some apart at_slot at_directory at_was begins gains stays = (grind (arith, nat_tests), grind (arith, nat_tests))
 
-pub data_alike : (old new : List ℕ) (slot name : ℕ) → owner_under new slot ≡ 0 → owner_under old slot ≡ 16 → owner_under new (directory_of new) ≡ 0 → HeapAccepted old
-    → (directory_of new ≡ directory_of old) ⊎ ((directory_of old ≡ 0) × (owner_under old (directory_of new) ≡ 16)) → 0 < directory_of new → (name ≢ slot → name ≢ directory_of new → owner_under new name ≡ owner_under old name)
-    → same (owner_under old name) 15 ≡ same (owner_under new name) 15
-data_alike old new slot name own was directory h begins low others = elim (cases_eq name slot) [
-  | inl e ↦
-      let now : owner_under new name ≡ 0 = ap (owner_under new) e ∙ own in
-      let past : owner_under old name ≡ 16 = ap (owner_under old) e ∙ was in
-      same-no (owner_under old name) 15 (λ z. omega arith) ∙ sym (same-no (owner_under new name) 15 (λ z. omega arith))
-  | inr ne ↦ elim (cases_eq name (directory_of new)) [
-    | inl e ↦
-        let now : owner_under new name ≡ 0 = ap (owner_under new) e ∙ directory in
-        let past : owner_under old name ≢ 15 = λ z. elim begins [
-          | inl stays ↦ (let before = ap (owner_under old) (e ∙ stays) ∙ directory_owner old h (omega arith) in omega arith)
-          | inr none ↦ (let before = ap (owner_under old) e ∙ none.1 in omega arith)
-        ] in
-        same-no (owner_under old name) 15 past ∙ sym (same-no (owner_under new name) 15 (λ z. omega arith))
-    | inr other ↦ ap (λ (o : ℕ). same o 15) (sym (others ne other))
-  ]
-]
-
-pub appends : (old new : List ℕ) (one : StoredDatabase) → Accepted old → ListsNew old new one.db (spelled one.database) → data_in one.database ≡ 0 ∷ 0 ∷ [] → one.database.entries ≡ [] → DatabaseFits one.database → length (databases old) < most_databases
-    → (IsTaken (store_of old) 0 one.database.header.name → ⊥) → Appends old new (databases old) one
+-- it comes after the others, with its data
+pub appends_gained : (old new : List ℕ) (one : StoredDatabase) (sizes : List (Option ℕ)) (names : List ℕ) → Accepted old → ListsWhole old new one.db (spelled one.database) sizes names → DatabaseFits one.database → All NamesData one.database.entries
+    → HasUniqueIds one.database → ((q : ℕ) → 0 < q → times q (data_in one.database) ≡ times q names) → length (databases old) < most_databases → (IsTaken (store_of old) 0 one.database.header.name → ⊥) → Appends old new (databases old) one
 unfolding listed
-appends old new one a l none empty fits few free =
-    let slot : ℕ = one.db in
-    let h = a.heap in
-    let own : owner_under new slot ≡ 0 = owner_held new slot (chunk_of (spelled one.database)) l.chunk in
-    let some : 0 < slot = held_some new slot (chunk_of (spelled one.database)) l.accepted l.chunk (omega arith) in
-    let was : owner_under old slot ≡ 16 = owner_none old slot l.fresh in
-    let new_directory : owner_under new (directory_of new) ≡ 0 = directory_owner new l.accepted l.some in
-    let long = length-append (directory_bytes old) (u32_bytes slot) in
-    let four = length-u32_bytes slot in
-    let bytes = ap length l.last in
-    let whole = a.whole in
+appends_gained old new one sizes names a l fits named ids sums few free =
+    let chunk : LiveChunk = chunk_of (spelled one.database) in
+    let own : owner_under new one.db ≡ 0 = owner_held new one.db chunk l.chunk in
+    let was : owner_under old one.db ≡ 16 = owner_none old one.db l.fresh in
     record {
       heap = l.accepted;
-      whole = omega (arith, long, four, bytes, whole);
-      listed_are = ap u32s_in l.last ∙ u32s_push (directory_bytes old) slot a.whole (slot_fits new slot l.accepted own);
-      some = some;
+      whole = omega (arith, length-append (directory_bytes old) (u32_bytes one.db), length-u32_bytes one.db, ap length l.last, a.whole);
+      listed_are = ap u32s_in l.last ∙ u32s_push (directory_bytes old) one.db a.whole (slot_fits new one.db l.accepted own);
+      some = held_some new one.db chunk l.accepted l.chunk (omega arith);
       few = few;
-      database = record {
-        spelled = record { fits = fits; bytes_are = bytes_held new slot (chunk_of (spelled one.database)) l.chunk };
-        entries = subst (λ (entries : List (Entry ℕ)). All NamesData entries) (sym empty) (All-nil NamesData);
-        ids = no_ids one.database empty;
-      };
+      database = record { spelled = record { fits = fits; bytes_are = bytes_held new one.db chunk l.chunk }; entries = named; ids = ids };
       own_names = own_names old one a free;
-      managers = λ name other owns. l.others name (λ e. (let same_owner = ap (owner_under old) (sym e) ∙ owns in omega arith)) (λ e. elim l.directory [
-        | inl stays ↦ other (e ∙ stays)
-        | inr begins ↦ (let gone = owner_none old (directory_of new) begins.1 in let same_owner = ap (owner_under old) (sym e) ∙ owns in omega arith)
-      ]);
-      owners = λ name positive. counted old new slot name h l.accepted l.some l.apart positive own was new_directory (elim l.directory [ inl stays ↦ inl stays | inr begins ↦ inr (begins.0, owner_none old (directory_of new) begins.1) ]) (λ ne other. ap (λ (o : ℕ). same o 0) (owner_alike old new name (l.others name ne other)));
-      balance = λ name positive.
-          let nothing : times name (data_in one.database) ≡ 0 = ap (times name) none ∙ none_named name positive in
-          let alike : same (owner_under old name) 15 ≡ same (owner_under new name) 15 = data_alike old new slot name own was new_directory h (elim l.directory [ inl stays ↦ inl stays | inr begins ↦ inr (begins.0, owner_none old (directory_of new) begins.1) ]) l.some
-          (λ ne other. owner_alike old new name (l.others name ne other)) in
-          omega arith;
+      managers = λ name other owns. l.others name (λ e. (let same_owner = ap (owner_under old) e in omega arith))
+          (λ e. elim l.directory [
+            | inl stays ↦ other (e ∙ stays)
+            | inr begins ↦ (let none = owner_none old name (ap (held old) e ∙ begins.1) in omega arith)
+          ])
+          (λ positive. elim (cases_eq (times name names) 0) [
+            | inl none ↦ none
+            | inr more ↦ (let none = owner_none old name (is_new name positive (omega arith)).fresh in absurd (omega arith))
+          ]);
+      owners = λ name positive. (owned_after name positive own was).0;
+      balance = λ name positive. (let after = (owned_after name positive own was).1 in let sum = sums name positive in omega arith);
     } where
-      no_ids : (database : Database ℕ) → database.entries ≡ [] → HasUniqueIds database
-      no_ids database empty =
-          let none : unique_ids database ≡ [] = ap (filter_map unique_id) empty in
-          record { none_zero = subst (λ (ids : List ℕ). All (λ id. id ≢ 0) ids) (sym none) (All-nil (λ id. id ≢ 0)); distinct = subst (λ (ids : List ℕ). Distinct ids) (sym none) (λ i j d less below. absurd (omega arith)) }
+      is_new : (name : ℕ) → 0 < name → 0 < times name names → IsNew (held old) (held new) name
+      is_new name positive at = gained (held old) (held new) sizes names l.each name positive at
 
--- callers may name what they might
-pub callers_alike : (old new : List ℕ) (slot : ℕ) (bytes : List ℕ) → HeapAccepted old → ListsNew old new slot bytes → (name : ℕ) → callers_map new name ≡ callers_map old name
-callers_alike old new slot bytes h l name = elim (cases_eq name slot) [
-  | inl e ↦ ap (callers_map new) e ∙ callers_managers new slot (chunk_of bytes) l.chunk refl ∙ sym (ap (callers_map old) e ∙ ap (not_owned 0) l.fresh)
-  | inr ne ↦ elim (cases_eq name (directory_of new)) [
-    | inl e ↦
-        let o = owned new (directory_of new) 0 (directory_owner new l.accepted l.some) (omega arith) in
-        ap (callers_map new) e ∙ callers_managers new (directory_of new) o.live o.there o.own ∙ sym (ap (callers_map old) e ∙ elim l.directory [
-          | inl stays ↦ (let some = l.some in let was = owned old (directory_of old) 0 (directory_owner old h (omega arith)) (omega arith) in ap (callers_map old) stays ∙ callers_managers old (directory_of old) was.live was.there was.own)
-          | inr begins ↦ ap (not_owned 0) begins.1
-        ])
-    | inr other ↦ ap (not_owned 0) (l.others name ne other)
-  ]
-]
+      owned_after : (name : ℕ) → 0 < name → owner_under new one.db ≡ 0 → owner_under old one.db ≡ 16 → (same name one.db + same name (directory_of new) + same (owner_under old name) 0 ≡ same name (directory_of old) + same (owner_under new name) 0) × (times name names + same (owner_under old name) 15 ≡ same (owner_under new name) 15)
+      owned_after name positive own was = owners_gained name one.db (directory_of old) (directory_of new) (owner_under old name) (owner_under new name) (times name names) positive l.apart
+          (λ e. (ap (owner_under old) e ∙ was, ap (owner_under new) e ∙ own)) (λ e. ap (owner_under new) e ∙ directory_owner new l.accepted l.some) (λ e. ap (owner_under old) e ∙ directory_owner old a.heap (omega arith))
+          (elim l.directory [ inl stays ↦ inl stays | inr begins ↦ inr (begins.0, λ e. owner_none old name (ap (held old) e ∙ begins.1)) ])
+          (λ some. (let is = is_new name positive some in (l.once name positive, owner_none old name is.fresh, owner_held new name (zeros_of is.size) is.there)))
+          (λ ne other none. owner_alike old new name (l.others name ne other (λ z. none)))
+
+-- ---- what callers may name
+
+hidden_none : (image : List ℕ) (name : ℕ) → owner_under image name ≡ 0 → callers_map image name ≡ None
+unfolding owner_under
+hidden_none image name own = hidden (held image name) own
+
+pub callers_gain : (old new : List ℕ) (db : ℕ) (bytes : List ℕ) (sizes : List (Option ℕ)) (names : List ℕ) → HeapAccepted old → ListsWhole old new db bytes sizes names → GainsZeros (callers_map old) (callers_map new) sizes names
+callers_gain old new db bytes sizes names h l = record {
+  each = zip_weaken (IsGained (held old) (held new)) (IsGained (callers_map old) (callers_map new)) sizes names (λ size name. shown size name) l.each;
+  once = l.once;
+  others = λ name none. elim (cases_eq name db) [
+    | inl e ↦ hidden_none new name (ap (owner_under new) e ∙ owner_held new db (chunk_of bytes) l.chunk) ∙ sym (ap (not_owned 0) (ap (held old) e ∙ l.fresh))
+    | inr ne ↦ elim (cases_eq name (directory_of new)) [
+      | inl e ↦ hidden_none new name (ap (owner_under new) e ∙ directory_owner new l.accepted l.some) ∙ sym (elim l.directory [
+        | inl stays ↦ hidden_none old name (ap (owner_under old) (e ∙ stays) ∙ directory_owner old h (omega (arith, l.some)))
+        | inr begins ↦ ap (not_owned 0) (ap (held old) e ∙ begins.1)
+      ])
+      | inr other ↦ ap (not_owned 0) (l.others name ne other none)
+    ]
+  ];
+} where
+  shown : (size : Option ℕ) (name : ℕ) → IsGained (held old) (held new) size name → IsGained (callers_map old) (callers_map new) size name
+  shown None name is = is
+  shown (Some size) name is = (is.0, ap (not_owned 0) is.1, ap (not_owned 0) is.2)
+
+-- without data
+as_whole : (old new : List ℕ) (slot : ℕ) (bytes : List ℕ) → ListsNew old new slot bytes → ListsWhole old new slot bytes [] []
+as_whole old new slot bytes l = record {
+  accepted = l.accepted;
+  len = l.len;
+  tables = l.tables;
+  still = l.still;
+  some = l.some;
+  directory = l.directory;
+  last = l.last;
+  fresh = l.fresh;
+  apart = l.apart;
+  chunk = l.chunk;
+  each = tt;
+  once = λ name some. omega arith;
+  others = λ name ne other none. l.others name ne other;
+}
 
 -- ---- the step
+
+pub few_listed : (image : List ℕ) → length (listed image) < most_databases → length (databases image) < most_databases
+few_listed image few = omega (arith, length-numbers (databases image), ap length (listed_numbers image))
 
 pub below_most : (image : List ℕ) → length (databases image) < most_databases → most_databases ≤ length (store_of image).databases → ⊥
 unfolding store_of
@@ -211,10 +174,11 @@ pub created : (old new : Memory) (db : Db) (name : List ℕ) (kind creator : ℕ
     → length (listed old.bytes) < most_databases → (IsTaken (store_of old.bytes) 0 name → ⊥) → KeepsLoan old new → new ≡ record old { bytes = new.bytes; slid = new.slid } → DoesInStore old (calls.Database (Create name kind creator resources date)) (replies.Database db) new
 created old new db name kind creator resources date a l fits few free loan rest =
     let one : StoredDatabase = record { db = db.0; database = empty_database name kind creator resources date } in
-    let count = length-numbers (databases old.bytes) in
-    let as_listed = ap length (listed_numbers old.bytes) in
-    let room : length (databases old.bytes) < most_databases = omega arith in
-    let has = create_steps old.bytes new.bytes one a (appends old.bytes new.bytes one a l refl refl fits room free) (callers_alike old.bytes new.bytes db.0 (spelled one.database) a.heap l) in
+    let room = few_listed old.bytes few in
+    let whole = as_whole old.bytes new.bytes db.0 (spelled one.database) l in
+    let ids : HasUniqueIds one.database = record { none_zero = All-nil (λ id. id ≢ 0); distinct = λ i j d less below. absurd (omega arith) } in
+    let has = create_steps old.bytes new.bytes one a (appends_gained old.bytes new.bytes one [] [] a whole fits (All-nil NamesData) ids (λ q some. none_named q some) room free)
+    (λ name. (callers_gain old.bytes new.bytes db.0 (spelled one.database) [] [] a.heap whole).others name (λ some. refl)) in
     record {
       before = a;
       step = ((λ not_name. not_name fits.name, (free, ((λ many. below_most old.bytes room many), (tt, tt)))), (l.fresh, has.same));
@@ -233,23 +197,8 @@ pub not_created : (old new : Memory) (name : List ℕ) (kind creator : ℕ) (res
     → (free_slots old.bytes < create_slots old.bytes) ⊎ Stuck (rooms old.bytes) (create_parts old.bytes) → refusal ≡ NotEnoughSpace → Leaves old.bytes new.bytes (held old.bytes) → KeepsLoan old new → new ≡ record old { bytes = new.bytes; slid = new.slid }
     → DoesInStore old (calls.Database (Create name kind creator resources date)) (replies.Refused refusal) new
 not_created old new name kind creator resources date refusal a named few free lacks is l loan rest =
-    let has = same_steps old.bytes new.bytes a l.frame l.map in
-    let count = length-numbers (databases old.bytes) in
-    let as_listed = ap length (listed_numbers old.bytes) in
-    let room : length (databases old.bytes) < most_databases = omega arith in
-    let as_much = as_before old.bytes new.bytes a.heap l.frame l.map in
-    record {
-      before = a;
-      step = (inr (λ not_name. not_name named, inr (free, inr ((λ many. below_most old.bytes room many), inl (lacks, is)))), record { store = has.same; free = as_much.0; slots = as_much.1 });
-      accepted = has.accepted;
-      len = l.frame.len;
-      tables = l.frame.tables;
-      directory = inl l.frame.directory;
-      still = l.still;
-      loan = loan;
-      asks = tt;
-      rest = rest;
-    }
+    let why = inr (λ not_name. not_name named, inr (free, inr ((λ many. below_most old.bytes (few_listed old.bytes few) many), inl (lacks, is)))) in
+    changes old new (calls.Database (Create name kind creator resources date)) (replies.Refused refusal) (store_of old.bytes) (λ tables. refl) a (same_steps old.bytes new.bytes a l) (why, left_as_before old new a l) loan tt rest
 
 -- ---- what is refused at once
 
@@ -262,7 +211,7 @@ name_taken old name kind creator resources date a named taken = refused old (cal
 
 pub most_there : (image : List ℕ) → most_databases ≤ length (listed image) → most_databases ≤ length (store_of image).databases
 unfolding store_of
-most_there image many = (let count = length-numbers (databases image) in let as_listed = ap length (listed_numbers image) in omega arith)
+most_there image many = omega (arith, length-numbers (databases image), ap length (listed_numbers image))
 
 pub too_many : (old : Memory) (name : List ℕ) (kind creator : ℕ) (resources : Bool) (date : ℕ) → Accepted old.bytes → IsDatabaseName name → (IsTaken (store_of old.bytes) 0 name → ⊥) → most_databases ≤ length (listed old.bytes)
     → DoesInStore old (calls.Database (Create name kind creator resources date)) (replies.Refused TooManyEntries) old
@@ -272,8 +221,7 @@ too_many old name kind creator resources date a named free many =
 -- ---- its header
 
 bit_fits : (resources : Bool) → (if resources then 1 else 0) < 2 ^ 16
-bit_fits true = omega arith
-bit_fits false = omega arith
+bit_fits resources = grind (arith, nat_tests)
 
 pub empty_fits : (name : List ℕ) (kind creator : ℕ) (resources : Bool) (date : ℕ) → IsDatabaseName name → kind < 2 ^ 32 → creator < 2 ^ 32 → date < 2 ^ 32 → DatabaseFits (empty_database name kind creator resources date)
 empty_fits name kind creator resources date named kind_fits creator_fits date_fits = record {

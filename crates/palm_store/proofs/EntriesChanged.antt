@@ -1,6 +1,6 @@
 -- The entries of one database changed: what follows on two changes, and on one that changes
 -- nothing.
-use Rattle.palm_store.proofs.Words.{◌≡◌, ℕ, Bool, List, [], ◌∷◌, set, Option, Some, None, refl, sym, ap, subst, ◌∙◌, inl, inr, cases_eq, eq-eqb, ne_eqb, set-get_or, get_or_from_slice_get, ◌==◌, IsSome, slice_get, slice_set, find, Database, Entry, StoredDatabase, databases, Accepted, store_of, with_changed, with_number, entry_under, replaced_if, replaced, entry_changed, LeavesStore, Db, cond-true, cond-false, same_some, none_some, changed_by_number, changed_twice, number_once, raised_if}
+use Rattle.palm_store.proofs.Words.{◌≡◌, ℕ, Bool, List, [], ◌∷◌, set, Some, None, refl, sym, ap, subst, ◌∙◌, inl, inr, cases_eq, eq-eqb, ne_eqb, set-get_or, get_or_from_slice_get, ◌==◌, IsSome, slice_get, slice_set, find, Database, Entry, StoredDatabase, databases, Accepted, store_of, with_changed, with_number, entry_under, replaced_if, replaced, entry_changed, LeavesStore, Db, same_some, none_some, changed_by_number, changed_twice, number_once, raised_if}
 use Rattle.palm_store.proofs.OpenedEntries.{Here, here, entry_is}
 
 -- a database with other entries
@@ -28,10 +28,10 @@ changed_behind image db first second both h a alike =
 -- a change that changes nothing
 with_itself : (db : ℕ) (stored : List StoredDatabase) → with_changed stored db (λ database. database) ≡ stored
 with_itself db [] = refl
-with_itself db (one ∷ stored) = ap (λ (x : StoredDatabase). x ∷ with_changed stored db (λ database. database)) (elim (cases_eq one.db db) [
-  | inl e ↦ cond-true (one.db == db) (record { db = db; database = one.database }) one (eq-eqb one.db db e) ∙ ap (λ (number : ℕ). record { db = number; database = one.database }) (sym e)
-  | inr ne ↦ cond-false (one.db == db) (record { db = db; database = one.database }) one (ne_eqb one.db db ne)
-]) ∙ ap (λ (xs : List StoredDatabase). one ∷ xs) (with_itself db stored)
+with_itself db (one ∷ stored) = elim (cases_eq one.db db) [
+  | inl e ↦ rw (eq-eqb one.db db e, with_itself db stored) (ap (λ (number : ℕ). record { db = number; database = one.database } ∷ stored) (sym e))
+  | inr ne ↦ rw (ne_eqb one.db db ne, with_itself db stored)
+]
 
 pub changed_nothing : (image : List ℕ) (db : ℕ) (change : List (Entry ℕ) → List (Entry ℕ)) (h : Here image db) → Accepted image → change h.one.database.entries ≡ h.one.database.entries
     → with_changed (store_of image).databases db (with_list change) ≡ (store_of image).databases
@@ -43,21 +43,10 @@ changed_nothing image db change h a alike =
 pub found_changed : (db : ℕ) (change : Database ℕ → Database ℕ) (stored : List StoredDatabase) (one : StoredDatabase) → find (λ other. other.db == db) stored ≡ Some one
     → find (λ other. other.db == db) (with_changed stored db change) ≡ Some (record { db = db; database = change one.database })
 found_changed db change [] one found = absurd (none_some None one refl found)
-found_changed db change (x ∷ stored) one found =
-    let now : StoredDatabase = record { db = db; database = change x.database } in
-    let rest : Option StoredDatabase = find (λ other. other.db == db) (with_changed stored db change) in
-    elim (cases_eq x.db db) [
-      | inl e ↦
-          let is : x ≡ one = same_some x one (sym (cond-true (x.db == db) (Some x) (find (λ other. other.db == db) stored) (eq-eqb x.db db e)) ∙ found) in
-          ap (λ (y : StoredDatabase). find (λ other. other.db == db) (y ∷ with_changed stored db change)) (cond-true (x.db == db) now x (eq-eqb x.db db e))
-          ∙ cond-true (db == db) (Some now) rest (eq-eqb db db refl) ∙ ap (λ (y : StoredDatabase). Some (record { db = db; database = change y.database })) is
-      | inr ne ↦
-          let behind = sym (cond-false (x.db == db) (Some x) (find (λ other. other.db == db) stored) (ne_eqb x.db db ne)) ∙ found in
-          ap (λ (y : StoredDatabase). find (λ other. other.db == db) (y ∷ with_changed stored db change)) (cond-false (x.db == db) now x (ne_eqb x.db db ne))
-          ∙ cond-false (x.db == db) (Some x) rest (ne_eqb x.db db ne) ∙ found_changed db change stored one behind
-    ]
-
--- ---- one entry
+found_changed db change (x ∷ stored) one found = elim (cases_eq x.db db) [
+  | inl e ↦ rw (eq-eqb x.db db e, eq-eqb db db refl) (ap (λ (y : StoredDatabase). Some (record { db = db; database = change y.database })) (same_some x one (rw (eq-eqb x.db db e) at found)))
+  | inr ne ↦ rw (ne_eqb x.db db ne, ne_eqb x.db db ne) (found_changed db change stored one (rw (ne_eqb x.db db ne) at found))
+]
 
 replaced_alike : (entries : List (Entry ℕ)) (index : ℕ) (entry : Entry ℕ) (one other : Entry ℕ → Entry ℕ) → slice_get entries index ≡ Some entry → one entry ≡ other entry → replaced entries index one ≡ replaced entries index other
 replaced_alike entries index entry one other at same =

@@ -68,8 +68,7 @@ index_most image db index has most = subst (λ (entries : List (Entry ℕ)). ind
 pub records_here : (image body : List ℕ) (db : Db) → HasNumber image db.0 → body ≡ bytes_under image db.0 → resources_under (store_of image) db ≡ false → resources_in body ≡ false
 records_here image body db has body_is records = ap resources_in body_is ∙ ap has_resources (sym (attributes_read (bytes_under image db.0))) ∙ sym (kind_here image db has) ∙ records
 
--- ---- a database that is read
-
+-- a database that is read
 pub read_here : (image body : List ℕ) (db : Db) (database : Database ℕ) → HasNumber image db.0 → body ≡ bytes_under image db.0 → database ≡ database_in body → HasDatabase image db.0 database
 read_here image body db database has body_is is =
     number_here image db.0 has ∙ ap (λ (d : Database ℕ). Some (record { db = db.0; database = d })) (ap database_in (sym body_is) ∙ sym is)

@@ -1,5 +1,5 @@
 -- An entry with another info: it names the same data, and what the info has to be makes it sound.
-use Rattle.palm_store.proofs.Words.{◌≡◌, ℕ, Bool, true, false, List, Option, Some, refl, sym, ap, subst, ◌∙◌, arith, slice_get, ◌==◌, bit_or, Entry, a_record, a_resource, entry_data, is_deleted, has_resources, EntryFits, unique_id, Accepted, store_of, NamesData, database_here, resources_under, OfEntry, deleted_bit, without_data, Db, HasOwnId, accepted_sound, entry_here, kind_here, data_here, entry_fits, entry_names, HasNumber, EntryInfo, with_info, CanHave, HasFittingInfo}
+use Rattle.palm_store.proofs.Words.{◌≡◌, ℕ, true, false, List, Option, Some, refl, sym, ap, subst, ◌∙◌, arith, slice_get, ◌==◌, bit_or, Entry, a_record, a_resource, entry_data, is_deleted, unique_id, Accepted, store_of, NamesData, database_here, resources_under, OfEntry, deleted_bit, without_data, Db, HasOwnId, accepted_sound, entry_here, kind_here, data_here, entry_fits, entry_names, HasNumber, EntryInfo, with_info, CanHave, HasFittingInfo}
 use Rattle.std.proofs.lemmas.Nat.Bits.{bit_at_or, bit_at-lt, bit_at-pow_same}
 use Rattle.std.specs.Int.{bit_at}
 use Rattle.palm_store.specs.declared.entries.infos.EntryInfo.TheVariants as infos
@@ -10,32 +10,22 @@ fitting_info image db index (infos.Resource kind id) can = tt
 
 pub informed_data : (info : EntryInfo) (entry : Entry ℕ) → entry_data (with_info info entry) ≡ entry_data entry
 informed_data (infos.Record attributes id) (a_record old_attributes old_id slot) = refl
-informed_data (infos.Record attributes id) (a_resource kind old_id slot) = refl
-informed_data (infos.Resource kind id) (a_record attributes old_id slot) = refl
 informed_data (infos.Resource kind id) (a_resource old_kind old_id slot) = refl
-
--- a record is no resource
-no_record : (kind : Bool) (attributes id slot : ℕ) → kind ≡ true → EntryFits kind (a_record attributes id slot) → ⊥
-no_record true attributes id slot e fits = fits
-no_record false attributes id slot e fits = absurd cc
-
--- ---- it is sound
+informed_data info entry = refl
 
 pub informed_names : (image : List ℕ) (db : Db) (index : ℕ) (info : EntryInfo) (entry : Entry ℕ) → Accepted image → HasNumber image db.0 → slice_get (database_here image db.0).entries index ≡ Some entry → CanHave (store_of image) db (resources_under (store_of image) db) index info
     → NamesData (with_info info entry)
 informed_names image db index (infos.Record attributes id) (a_record old_attributes old_id slot) a has at can = λ none. can.4 (data_here image db index (a_record old_attributes old_id slot) has at ∙ none)
-informed_names image db index (infos.Record attributes id) (a_resource kind old_id slot) a has at can = entry_names (database_here image db.0) index (a_resource kind old_id slot) (accepted_sound image db.0 a has) at
 informed_names image db index (infos.Resource kind id) (a_record attributes old_id slot) a has at can = entry_names (database_here image db.0) index (a_record attributes old_id slot) (accepted_sound image db.0 a has) at
-informed_names image db index (infos.Resource kind id) (a_resource old_kind old_id slot) a has at can = entry_names (database_here image db.0) index (a_resource old_kind old_id slot) (accepted_sound image db.0 a has) at
+informed_names image db index info entry a has at can = entry_names (database_here image db.0) index entry (accepted_sound image db.0 a has) at
 
 pub informed_own : (image : List ℕ) (db : Db) (index : ℕ) (info : EntryInfo) (entry : Entry ℕ) → Accepted image → HasNumber image db.0 → slice_get (database_here image db.0).entries index ≡ Some entry → CanHave (store_of image) db (resources_under (store_of image) db) index info
     → HasOwnId (database_here image db.0).entries index (with_info info entry)
 informed_own image db index (infos.Record attributes id) (a_record old_attributes old_id slot) a has at can =
     (can.1, λ other. can.3 (other.0, other.1, subst (λ (o : Option (Entry ℕ)). OfEntry o (λ entry. unique_id entry ≡ Some id)) (sym (entry_here image db other.0 has)) other.2))
-informed_own image db index (infos.Record attributes id) (a_resource kind old_id slot) a has at can = tt
 informed_own image db index (infos.Resource kind id) (a_record attributes old_id slot) a has at can =
-    absurd (no_record (has_resources (database_here image db.0).header.attributes) attributes old_id slot (sym (kind_here image db has) ∙ can) (entry_fits (database_here image db.0) index (a_record attributes old_id slot) (accepted_sound image db.0 a has) at))
-informed_own image db index (infos.Resource kind id) (a_resource old_kind old_id slot) a has at can = tt
+    absurd (rw (sym (kind_here image db has) ∙ can) at (entry_fits (database_here image db.0) index (a_record attributes old_id slot) (accepted_sound image db.0 a has) at))
+informed_own image db index info entry a has at can = tt
 
 -- ---- an entry without data
 
@@ -52,11 +42,6 @@ pub emptied_id : (entry : Entry ℕ) → unique_id (without_data entry) ≡ uniq
 emptied_id (a_record attributes id slot) = refl
 emptied_id (a_resource kind id slot) = refl
 
--- a resource is no record
-no_resource : (resources : Bool) (kind id slot : ℕ) → resources ≡ false → EntryFits resources (a_resource kind id slot) → ⊥
-no_resource true kind id slot e fits = absurd cc
-no_resource false kind id slot e fits = fits
-
 pub emptied_names : (image : List ℕ) (db : Db) (index : ℕ) (entry : Entry ℕ) → Accepted image → HasNumber image db.0 → slice_get (database_here image db.0).entries index ≡ Some entry → resources_under (store_of image) db ≡ false → NamesData (without_data entry)
 emptied_names image db index (a_record attributes id slot) a has at records = λ none. emptied_bit attributes
-emptied_names image db index (a_resource kind id slot) a has at records = absurd (no_resource (has_resources (database_here image db.0).header.attributes) kind id slot (sym (kind_here image db has) ∙ records) (entry_fits (database_here image db.0) index (a_resource kind id slot) (accepted_sound image db.0 a has) at))
+emptied_names image db index (a_resource kind id slot) a has at records = absurd (rw (sym (kind_here image db has) ∙ records) at (entry_fits (database_here image db.0) index (a_resource kind id slot) (accepted_sound image db.0 a has) at))

@@ -1,9 +1,7 @@
 -- Data that is written whole, and what callers see of the bytes of a chunk.
-use Rattle.palm_store.proofs.Words.{◌≡◌, ◌≢◌, ℕ, List, [], length, Option, Some, None, refl, sym, ap, subst, ◌∙◌, arith, inl, inr, cases_eq, managers_owner, data_owner, overwritten, HeapAccepted, LiveChunk, held, updated, changed, put, not_owned, Leaves, rewritten, Of, bytes_of, bytes_under, owner_under, Accepted, store_of, LeavesStore, held-zero, hidden, shown, change_steps, callers_change, IsMovable, IsDataName, HasDataOf, data_filled, all_written}
-use Rattle.palm_store.proofs.DataChunks.{for_data, data_movable}
+use Rattle.palm_store.proofs.Words.{◌≡◌, ◌≢◌, ℕ, List, [], length, Option, Some, refl, sym, ap, ◌∙◌, arith, inl, inr, managers_owner, data_owner, HeapAccepted, LiveChunk, held, put, not_owned, Leaves, rewritten, bytes_of, bytes_under, owner_under, Accepted, store_of, LeavesStore, held-zero, shown, change_steps, callers_change, IsMovable, IsDataName, HasDataOf, data_filled, all_written}
+use Rattle.palm_store.proofs.DataChunks.{is_shown, for_data, data_movable}
 use Rattle.palm_store.proofs.Maps.{owner_held, bytes_held}
-
--- ---- what callers see
 
 -- nothing under 0
 pub none_seen : (image : List ℕ) (name : ℕ) → HeapAccepted image → name ≡ 0 → [] ≡ bytes_of ((store_of image).map name)
@@ -32,15 +30,9 @@ pub record HoldsDataOf (image : List ℕ) (name count : ℕ) : Type 0 where
 
 pub data_held : (image : List ℕ) (name count : ℕ) → HasDataOf image name count → HoldsDataOf image name count
 unfolding store_of
-data_held image name count has = by (held image name) refl has where
-  by : (o : Option LiveChunk) → held image name ≡ o → Of (not_owned 0 o) (λ live. (live.owner ≡ data_owner) × (live.lock ≡ 0) × (length live.bytes ≡ count)) → HoldsDataOf image name count
-  by None e is = absurd is
-  by (Some live) e is = elim (cases_eq live.owner 0) [
-    | inl managers ↦ absurd (subst (λ (o : Option LiveChunk). Of o (λ one. (one.owner ≡ data_owner) × (one.lock ≡ 0) × (length one.bytes ≡ count))) (hidden (Some live) managers) is)
-    | inr callers ↦
-        let is_data : (live.owner ≡ data_owner) × (live.lock ≡ 0) × (length live.bytes ≡ count) = subst (λ (o : Option LiveChunk). Of o (λ one. (one.owner ≡ data_owner) × (one.lock ≡ 0) × (length one.bytes ≡ count))) (shown (Some live) callers) is in
-        record { live = live; there = e; own = is_data.0; loose = is_data.1; long = is_data.2 }
-  ]
+data_held image name count has =
+    let d = is_shown image name (λ live. (live.owner ≡ data_owner) × (live.lock ≡ 0) × (length live.bytes ≡ count)) has in
+    record { live = d.live; there = d.there; own = d.holds.0; loose = d.holds.1; long = d.holds.2 }
 
 pub filled_movable : (image : List ℕ) (name count : ℕ) → HeapAccepted image → HasDataOf image name count → IsMovable image name
 filled_movable image name count h has = data_movable image name h (let d = data_held image name count has in record { live = d.live; there = d.there; own = d.own })
@@ -48,16 +40,9 @@ filled_movable image name count h has = data_movable image name h (let d = data_
 pub data_long : (image : List ℕ) (name count : ℕ) → HasDataOf image name count → length (bytes_under image name) ≡ count
 data_long image name count has = (let d = data_held image name count has in ap length (bytes_held image name d.live d.there) ∙ d.long)
 
--- ---- bytes over all of it
-
--- all of it is what was written
-pub put_whole : (old new : List ℕ) (name : ℕ) (bytes : List ℕ) (live : LiveChunk) → held old name ≡ Some live → length bytes ≡ length live.bytes → Leaves old new (put (held old) name 0 bytes) → Leaves old new (rewritten (held old) name bytes)
-put_whole old new name bytes live there long l =
-    let over : LiveChunk → LiveChunk = λ one. record one { bytes = overwritten one.bytes 0 bytes } in
-    let now : LiveChunk → LiveChunk = λ one. record one { bytes = bytes } in
-    let same : changed over (held old name) ≡ changed now (held old name) =
-    ap (changed over) there ∙ ap (λ (all : List ℕ). Some (record live { bytes = all })) (all_written live.bytes bytes long) ∙ sym (ap (changed now) there) in
-    subst (λ (o : Option LiveChunk). Leaves old new (updated (held old) name o)) same l
+-- bytes are written over all of it
+put_whole : (old new : List ℕ) (name : ℕ) (bytes : List ℕ) (live : LiveChunk) → held old name ≡ Some live → length bytes ≡ length live.bytes → Leaves old new (put (held old) name 0 bytes) → Leaves old new (rewritten (held old) name bytes)
+put_whole old new name bytes live there long l = rw there (rw (there, all_written live.bytes bytes long) at l)
 
 pub filled_steps : (old new : List ℕ) (name : ℕ) (bytes : List ℕ) → Accepted old → HasDataOf old name (length bytes) → Leaves old new (put (held old) name 0 bytes) → LeavesStore old new (data_filled (store_of old) name bytes)
 unfolding store_of

@@ -1,42 +1,21 @@
 -- A caller's chunk that becomes the data of an entry: of a new one, or of one that hands over the
 -- data that it had.
-use Rattle.palm_store.proofs.Words.{◌≡◌, ◌≢◌, ℕ, zero, suc, ◌+◌, ◌<◌, ◌≤◌, Bool, true, List, [], ◌∷◌, length, Option, Some, None, refl, sym, ap, subst, ◌∙◌, arith, rules, inl, inr, cases_eq, All-nil, All-cons, IsSome, slice_get, need, fixed_lock, managers_owner, data_owner, HeapAccepted, directory_of, LiveChunk, ChunkMap, held, same, times, updated, changed, reowned, not_owned, callers_map, Of, rooms, ShortFor, growth_part, Stuck, entry_size, Entry, a_record, a_resource, entry_data, entry_with, Database, data_in, spelled, has_resources, EntryFits, owner_of, bytes_under, owner_under, databases, Accepted, store_of, with_changed, IsSound, Leaves, Respells, rewritten, SpellsHere, database_here, most_entries, entries_in, data_under, resources_under, with_entry_at, entry_attached, data_exchanged, entry_swapped, raised, LeavesStore, MakesNone, Db, none_some, same_some, held-zero, HasOwnId, Change, IsCallersChange, inserted_sound, inserted_names, raised_sound, replaced_own, replaced_names, seeded_name, hidden, shown, one_change, edited, made_balance, exchanged_balance, edit_steps, each_one, accepted_sound, number_slot, number_held, data_here, entries_here, kind_here, directory_owner, one_grown, IsMovable, counted, entry_inserted, entry_written, HasNoRoomForEntry, HasNumber, NewEntry, IsMadeOf, TakesIn, MayBeGiven}
+use Rattle.palm_store.proofs.Words.{◌≡◌, ◌≢◌, ℕ, ◌+◌, ◌<◌, ◌≤◌, Bool, true, List, [], ◌∷◌, length, Option, Some, refl, sym, ap, subst, ◌∙◌, arith, rules, All-nil, All-cons, IsSome, slice_get, need, fixed_lock, data_owner, HeapAccepted, directory_of, LiveChunk, ChunkMap, held, same, times, updated, changed, reowned, callers_map, rooms, ShortFor, growth_part, Stuck, entry_size, Entry, a_record, a_resource, entry_data, entry_with, Database, data_in, spelled, has_resources, EntryFits, owner_of, bytes_under, owner_under, databases, Accepted, store_of, with_changed, IsSound, Leaves, Respells, rewritten, SpellsHere, database_here, most_entries, entries_in, data_under, resources_under, with_entry_at, entry_attached, data_exchanged, entry_swapped, raised, LeavesStore, MakesNone, Db, HasOwnId, Change, IsCallersChange, inserted_sound, inserted_names, raised_sound, replaced_own, replaced_names, seeded_name, one_change, edited, made_balance, exchanged_balance, edit_steps, each_one, accepted_sound, number_slot, number_held, data_here, entries_here, kind_here, directory_owner, one_grown, IsMovable, counted, entry_inserted, entry_written, HasNoRoomForEntry, HasNumber, NewEntry, IsMadeOf, TakesIn, MayBeGiven}
 use Rattle.laws_store.proofs.Edited.{apart as updated_apart}
 use Rattle.palm_store.proofs.Maps.{owner_held}
-use Rattle.palm_store.proofs.DataChunks.{for_data, data_callers}
-use Rattle.palm_store.proofs.EntryChanges.{name_apart, then_raised, unnamed, with_entry_set, set_is, slot_owner, slot_some}
+use Rattle.palm_store.proofs.DataChunks.{IsShown, is_shown, name_some, for_data, data_callers}
+use Rattle.palm_store.proofs.EntryChanges.{name_apart, then_raised, with_entry_set, set_is, slot_owner, slot_some, owned_by, then_reowned, reowned_change}
+pub use Rattle.palm_store.proofs.EntryChanges.{written_then_owned, owned_none}
 use Rattle.palm_store.proofs.NewEntries.{header, named_so, made_of, names_some, new_id}
-use Rattle.palm_store.proofs.TwoSteps.{rewritten_apart, KeepsChunks, changed_keeps, respelled_keeps, keeps_then, then_changed, none_made, none_made_by}
-
--- ---- the chunk
+use Rattle.palm_store.proofs.TwoSteps.{rewritten_apart, changed_keeps, respelled_keeps, keeps_then, none_made}
 
 -- a chunk of a caller's, which is movable
-pub record IsGiven (image : List ℕ) (name : ℕ) : Type 0 where
-  pub live : LiveChunk
-  pub there : held image name ≡ Some live
-  pub known : callers_map image name ≡ Some live
-  pub callers : live.owner ≢ managers_owner
-  pub no_data : live.owner ≢ data_owner
-  pub movable : live.lock ≢ fixed_lock
-
-abbrev IsOpen : LiveChunk → Type 0
-IsOpen live = (live.owner ≢ data_owner) × (live.lock ≢ fixed_lock)
+abbrev pub IsGiven : List ℕ → ℕ → Type 0
+IsGiven image name = IsShown image name (λ live. (live.owner ≢ data_owner) × (live.lock ≢ fixed_lock))
 
 pub given : (image : List ℕ) (name : ℕ) → MayBeGiven image name → IsGiven image name
 unfolding store_of
-given image name may = by (held image name) refl may where
-  by : (o : Option LiveChunk) → held image name ≡ o → Of (not_owned 0 o) IsOpen → IsGiven image name
-  by None e of = absurd of
-  by (Some live) e of = elim (cases_eq live.owner 0) [
-    | inl none ↦ absurd (subst (λ (o : Option LiveChunk). Of o IsOpen) (hidden (Some live) none) of)
-    | inr some ↦
-        let is : IsOpen live = subst (λ (o : Option LiveChunk). Of o IsOpen) (shown (Some live) some) of in
-        record { live = live; there = e; known = ap (not_owned 0) e ∙ shown (Some live) some; callers = some; no_data = is.0; movable = is.1 }
-  ]
-
-pub given_some : (image : List ℕ) (name : ℕ) → HeapAccepted image → IsGiven image name → 0 < name
-given_some image zero h g = absurd (none_some (held image 0) g.live (held-zero image h) g.there)
-given_some image (suc name) h g = omega arith
+given image name may = is_shown image name (λ live. (live.owner ≢ data_owner) × (live.lock ≢ fixed_lock)) may
 
 -- it is not the database's
 pub given_apart : (image : List ℕ) (db name : ℕ) → Accepted image → HasNumber image db → IsGiven image name → name ≢ db
@@ -45,51 +24,23 @@ given_apart image db name a has g e =
     g.callers (sym (owner_held image name g.live g.there) ∙ ap (owner_under image) e ∙ slot.owner)
 
 given_no_data : (image : List ℕ) (name : ℕ) → IsGiven image name → owner_under image name ≢ data_owner
-given_no_data image name g e = g.no_data (sym (owner_held image name g.live g.there) ∙ e)
+given_no_data image name g e = g.holds.0 (sym (owner_held image name g.live g.there) ∙ e)
 
 -- ---- it can be given to the database in an image where it is as it was
 
 pub given_movable : (old new : List ℕ) (name : ℕ) → IsGiven old name → held new name ≡ held old name → IsMovable new name
-given_movable old new name g kept = record { live = g.live; is_held = kept ∙ g.there; movable = g.movable }
+given_movable old new name g kept = record { live = g.live; is_held = kept ∙ g.there; movable = g.holds.1 }
 
 pub given_no_directory : (old new : List ℕ) (name : ℕ) → HeapAccepted old → IsGiven old name → directory_of new ≡ directory_of old → name ≢ directory_of new
 given_no_directory old new name h g kept e =
-    let some = given_some old name h g in
-    g.callers (sym (owner_held old name g.live g.there) ∙ ap (owner_under old) (e ∙ kept) ∙ directory_owner old h (subst (λ (n : ℕ). 0 < n) (e ∙ kept) some))
+    let some = name_some old name g.live h g.there in
+    g.callers (sym (owner_held old name g.live g.there) ∙ ap (owner_under old) (e ∙ kept) ∙ directory_owner old h (omega arith))
 
 -- the database was written anew
 pub given_kept : (old mid : List ℕ) (db name : ℕ) (d : Database ℕ) → Accepted old → HasNumber old db → IsGiven old name → Respells old mid db d → held mid name ≡ held old name
 given_kept old mid db name d a has g l = l.map name ∙ rewritten_apart (held old) db name (spelled d) (given_apart old db name a has g)
 
--- ---- owners
-
-abbrev pub owned_by : ℕ → LiveChunk → LiveChunk
-owned_by owner live = record live { owner = owner }
-
--- a chunk got an owner once others were changed
-pub then_reowned : (old mid new : List ℕ) (map : ChunkMap) (name owner : ℕ) → KeepsChunks old mid → Leaves old mid map → Leaves mid new (reowned (held mid) name owner) → Leaves old new (reowned map name owner)
-then_reowned old mid new map name owner keeps first second =
-    then_changed old mid new map name (changed (owned_by owner) (map name)) keeps first
-    (subst (λ (o : Option LiveChunk). Leaves mid new (updated (held mid) name (changed (owned_by owner) o))) (first.map name) second)
-
--- a database was written anew, and then a chunk got an owner
-pub written_then_owned : (old mid new : List ℕ) (db name owner : ℕ) (d : Database ℕ) → Respells old mid db d → Leaves mid new (reowned (held mid) name owner) → Leaves old new (reowned (rewritten (held old) db (spelled d)) name owner)
-written_then_owned old mid new db name owner d first second = then_reowned old mid new (rewritten (held old) db (spelled d)) name owner (respelled_keeps old mid db d first) first second
-
-pub owned_none : (old new : List ℕ) (db name owner : ℕ) (d : Database ℕ) (live : LiveChunk) → Accepted old → HasNumber old db → held old name ≡ Some live → Leaves old new (reowned (rewritten (held old) db (spelled d)) name owner) → MakesNone old new
-owned_none old new db name owner d live a has there l =
-    none_made_by old new db name (spelled d) (changed (owned_by owner) (rewritten (held old) db (spelled d) name)) l (number_held old db a has) (λ some. subst (λ (o : Option LiveChunk). IsSome o) (sym there) (search rules))
-
-reowned_change : (image : List ℕ) (name owner : ℕ) (live : LiveChunk) (now : Option LiveChunk) → held image name ≡ Some live → live.owner ≢ managers_owner → owner ≢ managers_owner → now ≡ Some (owned_by owner live) → IsCallersChange image (record { name = name; now = now })
-reowned_change image name owner live now there callers other is = record {
-  callers = λ e. callers (sym (owner_held image name live there) ∙ e);
-  callers_now = λ e. other (sym (ap owner_of is) ∙ e);
-  locks = λ before after was then. ap (λ (l : LiveChunk). l.lock) (same_some after (owned_by owner live) (sym then ∙ is)) ∙ ap (λ (l : LiveChunk). l.lock) (same_some live before (sym there ∙ was));
-}
-
--- ---- a database changed, with the owner of one chunk
-
--- it names a caller's chunk more
+-- a database names a caller's chunk more
 pub given_steps : (old new : List ℕ) (db : Db) (change : Database ℕ → Database ℕ) (name : ℕ) → Accepted old → HasNumber old db.0 → IsGiven old name → Leaves old new (reowned (rewritten (held old) db.0 (spelled (change (database_here old db.0)))) name data_owner)
     → IsSound (change (database_here old db.0)) → (change (database_here old db.0)).header.name ≡ (database_here old db.0).header.name
     → ((q : ℕ) → 0 < q → times q (data_in (change (database_here old db.0))) ≡ times q (data_in (database_here old db.0)) + same name q)
@@ -107,23 +58,6 @@ given_steps old new db change name a has g given_to sound same_name counts =
       each = each_one old name now (reowned_change old name data_owner g.live now g.there g.callers (λ e. omega arith) now_is);
       balance = made_balance old new db.0 (spelled (change d)) name now leaves d (change d) (given_no_data old name g) (ap owner_of now_is) counts;
     })
-
--- it names a chunk no more, which a caller gets
-pub handed_steps : (old new : List ℕ) (db : Db) (change : Database ℕ → Database ℕ) (slot owner : ℕ) → Accepted old → HasNumber old db.0 → owner_under old slot ≡ data_owner → 0 < owner → owner < 15
-    → Leaves old new (reowned (rewritten (held old) db.0 (spelled (change (database_here old db.0)))) slot owner) → IsSound (change (database_here old db.0)) → (change (database_here old db.0)).header.name ≡ (database_here old db.0).header.name
-    → ((q : ℕ) → 0 < q → times q (data_in (change (database_here old db.0))) + same slot q ≡ times q (data_in (database_here old db.0)))
-    → LeavesStore old new (record { map = reowned (callers_map old) slot owner; databases = with_changed (databases old) db.0 change })
-handed_steps old new db change slot owner a has own low high given_to sound same_name counts =
-    let d : Database ℕ = database_here old db.0 in
-    let chunk = for_data old slot own in
-    let now : Option LiveChunk = changed (owned_by owner) (callers_map old slot) in
-    let was : rewritten (held old) db.0 (spelled (change d)) slot ≡ callers_map old slot = rewritten_apart (held old) db.0 slot (spelled (change d)) (name_apart old db.0 slot a has (λ some. own)) ∙ chunk.there ∙ sym (data_callers old slot chunk) in
-    let leaves : Leaves old new (edited (held old) db.0 (spelled (change d)) (one_change slot now)) = subst (λ (o : Option LiveChunk). Leaves old new (updated (rewritten (held old) db.0 (spelled (change d))) slot (changed (owned_by owner) o))) was given_to in
-    let now_is : now ≡ Some (owned_by owner chunk.live) = ap (changed (owned_by owner)) (data_callers old slot chunk) in
-    let owner_is : owner_of now ≡ owner = ap owner_of now_is in
-    unnamed old new db change slot now a has leaves sound same_name (λ some. own) (λ e. omega arith) (λ e. omega arith)
-    (λ before later is then. ap (λ (live : LiveChunk). live.lock) (same_some later (owned_by owner chunk.live) (sym then ∙ now_is)) ∙ ap (λ (live : LiveChunk). live.lock) (same_some chunk.live before (sym chunk.there ∙ is)))
-    counts
 
 -- ---- a new entry
 
@@ -152,11 +86,10 @@ attach_leaves old new db at entry one kind name a has is may takes same_kind fit
     let d : Database ℕ = database_here old db.0 in
     let one_made : Entry ℕ = entry_with (λ none. name) one in
     let slot_is = named_so name one in
-    let made_is = made_of old db entry name one is in
     let g = given old name may in
     let count = ap length (entries_here old db has) in
     let put_in : Database ℕ → Database ℕ = with_entry_at at one_made in
-    let sound = inserted_sound d at one_made (accepted_sound old db.0 a has) (subst (λ (k : Bool). EntryFits k one_made) (same_kind ∙ kind_here old db has) fits) (names_some name one (given_some old name a.heap g)) (new_id old db entry name one_made has made_is) (omega arith) (omega arith) in
+    let sound = inserted_sound d at one_made (accepted_sound old db.0 a has) (subst (λ (k : Bool). EntryFits k one_made) (same_kind ∙ kind_here old db has) fits) (names_some name one (name_some old name g.live a.heap g.there)) (new_id old db entry name one_made has (made_of old db entry name one is)) (omega arith) (omega arith) in
     let store = given_steps old new db (entry_inserted at one_made) name a has g takes (raised_sound (put_in d) sound) (seeded_name one_made d.header)
     (λ q some. (let names = inserted_names q d at one_made in let slot = ap (λ (n : ℕ). same n q) slot_is in omega arith)) in
     subst (λ (n : ℕ). LeavesStore old new (raised (record { map = reowned (callers_map old) n data_owner; databases = with_changed (databases old) db.0 put_in }) db)) (sym slot_is)
@@ -170,8 +103,6 @@ attach_steps old new db at entry one kind name a has is may takes same_kind fits
   made_of old db entry name one is,
   attach_leaves old new db at entry one kind name a has is may takes same_kind fits inside few,
 )
-
--- ---- an entry that has other data
 
 -- another name leaves an entry its ID
 own_with : (entries : List (Entry ℕ)) (index name : ℕ) (entry : Entry ℕ) → HasOwnId entries index entry → HasOwnId entries index (entry_with (λ (slot : ℕ). name) entry)
@@ -194,15 +125,14 @@ pub swap_steps : (old mid between new : List ℕ) (db : Db) (index : ℕ) (chang
     → Respells old mid db.0 (entry_written true index after (database_here old db.0)) → Leaves mid between (reowned (held mid) slot owner) → Leaves between new (reowned (held between) name data_owner)
     → EntryFits (has_resources (database_here old db.0).header.attributes) (entry_with (λ none. name) (change entry)) → HasOwnId (database_here old db.0).entries index (change entry)
     → LeavesStore old new (raised (entry_swapped (store_of old) db index change name owner) db) × MakesNone old new
-unfolding store_of with_entry_set
+unfolding store_of
 swap_steps old mid between new db index change entry after slot name owner a has at is_slot there is may low high first second third fits own_id =
     let d : Database ℕ = database_here old db.0 in
     let exchange : Entry ℕ → Entry ℕ = λ one. entry_with (λ (old_slot : ℕ). name) (change one) in
     let set : Database ℕ → Database ℕ = with_entry_set index exchange in
     let counting : Database ℕ → Database ℕ = λ database. counted (with_entry_set index exchange database) in
     let g = given old name may in
-    let own : 0 < slot → owner_under old slot ≡ data_owner = slot_owner old db index slot entry a has at is_slot in
-    let owned : owner_under old slot ≡ data_owner = own (slot_some old db index slot entry has at is_slot there) in
+    let owned = slot_owner old db index slot entry a has at is_slot (slot_some old db index slot entry has at is_slot there) in
     let chunk = for_data old slot owned in
     let apart = slot_apart old slot name g owned in
     let written : Respells old mid db.0 (counting d) = subst (λ (other : Database ℕ). Respells old mid db.0 (counted other)) (set_is d index exchange entry after at is) first in
@@ -212,7 +142,7 @@ swap_steps old mid between new db index change entry after slot name owner a has
     let both = then_reowned old between new (reowned map slot owner) name data_owner (keeps_then old mid between keeps (changed_keeps mid between slot (owned_by owner) (λ live. refl) second)) handed third in
     let out : Option LiveChunk = changed (owned_by owner) (callers_map old slot) in
     let now : Option LiveChunk = changed (owned_by data_owner) (reowned (callers_map old) slot owner name) in
-    let slot_was : map slot ≡ callers_map old slot = rewritten_apart (held old) db.0 slot (spelled (counting d)) (name_apart old db.0 slot a has own) ∙ chunk.there ∙ sym (data_callers old slot chunk) in
+    let slot_was : map slot ≡ callers_map old slot = rewritten_apart (held old) db.0 slot (spelled (counting d)) (name_apart old db.0 slot a has (λ some. owned)) ∙ chunk.there ∙ sym (data_callers old slot chunk) in
     let callers_was : reowned (callers_map old) slot owner name ≡ Some g.live = updated_apart (callers_map old) slot out name apart ∙ g.known in
     let name_was : reowned map slot owner name ≡ reowned (callers_map old) slot owner name =
     updated_apart map slot (changed (owned_by owner) (map slot)) name apart ∙ rewritten_apart (held old) db.0 name (spelled (counting d)) (given_apart old db.0 name a has g) ∙ g.there ∙ sym callers_was in
@@ -225,7 +155,7 @@ swap_steps old mid between new db index change entry after slot name owner a has
     let chunk_own = chunk.own in
     let store = edit_steps old new db counting (record { name = name; now = now } ∷ one_change slot out) a has (record {
       leaves = leaves;
-      sound = raised_sound (set d) (replaced_own d index exchange entry (accepted_sound old db.0 a has) at fits (names_some name (change entry) (given_some old name a.heap g)) (own_with d.entries index name (change entry) own_id));
+      sound = raised_sound (set d) (replaced_own d index exchange entry (accepted_sound old db.0 a has) at fits (names_some name (change entry) (name_some old name g.live a.heap g.there)) (own_with d.entries index name (change entry) own_id));
       same_name = refl;
       each = All-cons (IsCallersChange old) (record { name = name; now = now }) (one_change slot out) (reowned_change old name data_owner g.live now g.there g.callers (λ e. omega arith) now_is)
           (each_one old slot out (reowned_change old slot owner chunk.live out chunk.there (λ e. omega arith) (λ e. omega arith) out_is));

@@ -1,13 +1,12 @@
 -- A database gets an info block, which was a caller's chunk, or has one no longer, which a caller
 -- gets.
-use Rattle.palm_store.proofs.Words.{◌≡◌, ◌≢◌, ℕ, ◌+◌, ◌<◌, List, ◌∷◌, map, refl, sym, ap, subst, ◌∙◌, arith, inl, inr, ◌⊎◌, data_owner, u32_at, directory_of, held, same, times, reowned, callers_map, entry_data, Database, data_in, database_in, spelled, DatabaseFits, owner_under, IsInfoBlock, databases, Accepted, store_of, with_changed, IsSound, Leaves, Respells, rewritten, database_here, info_block, with_info_block, info_block_of, info_block_under, info_block_set, info_block_taken, raised, LeavesStore, Db, Which, times-cons, same-no, accepted_sound, number_database, number_here, IsMovable, HasNumber, with_block}
+use Rattle.palm_store.proofs.Words.{◌≡◌, ◌≢◌, ℕ, ◌+◌, ◌<◌, false, List, map, refl, sym, ap, subst, ◌∙◌, arith, inl, inr, ◌⊎◌, data_owner, u32_at, directory_of, held, same, times, reowned, callers_map, Database, data_in, database_in, spelled, DatabaseFits, owner_under, IsInfoBlock, databases, Accepted, store_of, with_changed, IsSound, Leaves, Respells, rewritten, database_here, info_block, with_info_block, info_block_of, info_block_under, info_block_set, info_block_taken, raised, LeavesStore, Db, Which, same-no, accepted_sound, number_database, number_here, IsMovable, HasNumber, with_block}
 use Rattle.heap_model.specs.declared.names.Which.TheVariants.{App, Sort}
+use Rattle.laws_store.proofs.NameCounts.{times-data}
 use Rattle.palm_store.proofs.DataChunks.{for_data, data_movable, data_no_directory}
-use Rattle.palm_store.proofs.EntryChanges.{name_apart, then_raised}
+use Rattle.palm_store.proofs.EntryChanges.{name_apart, then_raised, handed_steps, sound_like}
 use Rattle.palm_store.proofs.TwoSteps.{rewritten_apart}
-use Rattle.palm_store.proofs.GivenData.{IsGiven, given_steps, handed_steps}
-
--- ---- what changes of the database
+use Rattle.palm_store.proofs.GivenData.{IsGiven, given_steps}
 
 pub same_name : (which : Which) (slot : ℕ) (d : Database ℕ) → (with_block which slot d).header.name ≡ d.header.name
 same_name App slot d = refl
@@ -15,16 +14,8 @@ same_name Sort slot d = refl
 
 -- it names the block in place of the one that it had
 pub names_block : (q : ℕ) (which : Which) (slot : ℕ) (d : Database ℕ) → times q (data_in (with_block which slot d)) + same (info_block which d) q ≡ times q (data_in d) + same slot q
-names_block q App slot d =
-    let was = times-cons q d.app_info (d.sort_info ∷ map entry_data d.entries) in
-    let now = times-cons q slot (d.sort_info ∷ map entry_data d.entries) in
-    omega arith
-names_block q Sort slot d =
-    let first = times-cons q d.app_info (d.sort_info ∷ map entry_data d.entries) in
-    let was = times-cons q d.sort_info (map entry_data d.entries) in
-    let later = times-cons q d.app_info (slot ∷ map entry_data d.entries) in
-    let now = times-cons q slot (map entry_data d.entries) in
-    omega arith
+names_block q App slot d = omega (arith, times-data q d, times-data q (with_block App slot d))
+names_block q Sort slot d = omega (arith, times-data q d, times-data q (with_block Sort slot d))
 
 -- ---- the block that there is
 
@@ -59,31 +50,16 @@ block_movable old mid db which slot d a has block l =
 pub block_no_directory : (old mid : List ℕ) (db : ℕ) (which : Which) (slot : ℕ) (d : Database ℕ) → Accepted old → IsBlock old db which slot → Respells old mid db d → slot ≢ directory_of mid
 block_no_directory old mid db which slot d a block l e = data_no_directory old slot a.heap block.some block.own (e ∙ l.frame.directory)
 
--- ---- the header that is read
-
-app_read : (body : List ℕ) → (database_in body).app_info ≡ u32_at body 52
-unfolding database_in
-app_read body = refl
-
-sort_read : (body : List ℕ) → (database_in body).sort_info ≡ u32_at body 56
-unfolding database_in
-sort_read body = refl
-
+-- the header that is read
 pub block_read : (body : List ℕ) (which : Which) (slot : ℕ) → ((which ≡ App) × (slot ≡ u32_at body 52)) ⊎ ((which ≡ Sort) × (slot ≡ u32_at body 56)) → slot ≡ info_block which (database_in body)
-block_read body which slot is = elim is [
-  | inl app ↦ subst (λ (w : Which). slot ≡ info_block w (database_in body)) (sym app.0) (app.1 ∙ sym (app_read body))
-  | inr sort ↦ subst (λ (w : Which). slot ≡ info_block w (database_in body)) (sym sort.0) (sort.1 ∙ sym (sort_read body))
-]
+unfolding database_in
+block_read body which slot is = elim is [ inl app ↦ rw app.0 app.1 | inr sort ↦ rw sort.0 sort.1 ]
 
 -- ---- the steps
 
 sound_with : (image : List ℕ) (db : ℕ) (which : Which) (slot : ℕ) → Accepted image → HasNumber image db → DatabaseFits (with_block which slot (database_here image db)) → IsSound (with_block which slot (database_here image db))
-sound_with image db App slot a has fits =
-    let was = accepted_sound image db a has in
-    record { fits = fits; entries = was.entries; ids = record { none_zero = was.ids.none_zero; distinct = was.ids.distinct } }
-sound_with image db Sort slot a has fits =
-    let was = accepted_sound image db a has in
-    record { fits = fits; entries = was.entries; ids = record { none_zero = was.ids.none_zero; distinct = was.ids.distinct } }
+sound_with image db App slot a has fits = sound_like (database_here image db) (with_block App slot (database_here image db)) (accepted_sound image db a has) fits refl
+sound_with image db Sort slot a has fits = sound_like (database_here image db) (with_block Sort slot (database_here image db)) (accepted_sound image db a has) fits refl
 
 pub set_block_steps : (old new : List ℕ) (db : Db) (which : Which) (name : ℕ) → Accepted old → HasNumber old db.0 → IsGiven old name → info_block_under (store_of old) db which ≡ 0 → DatabaseFits (with_block which name (database_here old db.0))
     → Leaves old new (reowned (rewritten (held old) db.0 (spelled (with_block which name (database_here old db.0)))) name data_owner) → LeavesStore old new (raised (info_block_set (store_of old) db which name) db)
@@ -103,5 +79,5 @@ take_block_steps old new db which slot owner a has is some low high fits l =
     let own = ap (owner_under old) is ∙ block_owner old db.0 which a has (omega arith) in
     subst (λ (n : ℕ). LeavesStore old new (raised (record { map = reowned (callers_map old) n owner; databases = with_changed (databases old) db.0 (with_info_block which 0) }) db)) (is ∙ sym (block_here old db which has))
     (then_raised old new db (with_info_block which 0) (record { map = reowned (callers_map old) slot owner; databases = databases old })
-    (handed_steps old new db (with_block which 0) slot owner a has own low high l (sound_with old db.0 which 0 a has fits) (same_name which 0 d)
+    (handed_steps false old new db (with_block which 0) slot owner a has own low high l (sound_with old db.0 which 0 a has fits) (same_name which 0 d)
     (λ q positive. (let names = names_block q which 0 d in let nothing = same-no 0 q (λ e. omega arith) in let same_slot = ap (λ (n : ℕ). same n q) is in omega arith))))
