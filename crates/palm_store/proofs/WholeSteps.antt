@@ -1,7 +1,8 @@
 -- A whole database that was made is a step of the store: it comes after the others, and its data to
 -- the map.
-use Rattle.palm_store.proofs.Words.{◌≡◌, ◌≢◌, ℕ, ◌+◌, ◌<◌, Bool, List, [], ◌∷◌, ◌++◌, length, map, drop, Option, Some, None, refl, sym, ap, subst, ◌∙◌, arith, length-append, inl, inr, cases_eq, All-nil, All-cons, All-head, All-tail, ◌⊎◌, All, AllZip, filter_map, u32_bytes, HeapAccepted, directory_of, LiveChunk, ChunkMap, held, same, times, u32s_in, Distinct, not_owned, callers_map, Database, data_in, entry_data, spelled, has_resources, DatabaseFits, entry_offset, StoredDatabase, owner_of, owner_under, directory_bytes, listed, databases, most_databases, unique_id, HasUniqueIds, Accepted, store_of, NamesData, IsTaken, DbInfo, length-u32_bytes, Appends, same-yes, same-no, directory_owner, has_databases, listed_numbers, length-numbers, u32s_push, hidden, has_store, BlockSizes, WholeEntry, size_of_data, data_sizes, CanCome, id_asked, CanBeWhole, entries_named, whole_database, whole_size, IsGained, GainsZeros, MakesWhole, ListsWhole}
+use Rattle.palm_store.proofs.Words.{◌≡◌, ◌≢◌, ℕ, ◌+◌, ◌<◌, Bool, List, [], ◌∷◌, ◌++◌, length, map, drop, Option, Some, None, refl, sym, ap, ◌∙◌, arith, length-append, inl, inr, cases_eq, All-nil, All-cons, All-head, All-tail, ◌⊎◌, All, AllZip, filter_map, u32_bytes, HeapAccepted, directory_of, LiveChunk, ChunkMap, held, same, times, u32s_in, not_owned, callers_map, Database, data_in, entry_data, spelled, has_resources, DatabaseFits, entry_offset, StoredDatabase, owner_of, owner_under, directory_bytes, listed, databases, most_databases, unique_id, HasUniqueIds, Accepted, store_of, NamesData, IsTaken, DbInfo, length-u32_bytes, Appends, same-yes, same-no, directory_owner, has_databases, listed_numbers, length-numbers, u32s_push, hidden, has_store, BlockSizes, WholeEntry, size_of_data, data_sizes, CanCome, id_asked, CanBeWhole, entries_named, whole_database, whole_size, IsGained, GainsZeros, MakesWhole, ListsWhole}
 use Rattle.laws_store.proofs.Listed as listed
+use Rattle.palm_store.specs.WholeDatabases.{entry_named}
 use Rattle.palm_store.specs.declared.entries.infos.EntryInfo.TheVariants as infos
 use Rattle.palm_store.proofs.Maps.{owner_held, owner_none, owner_alike, bytes_held, held_some}
 use Rattle.palm_store.proofs.ListedSlots.{chunk_of}
@@ -22,20 +23,18 @@ whole_data info entries [] long = absurd (omega arith)
 whole_data info entries (one ∷ []) long = absurd (omega arith)
 whole_data info entries (one ∷ two ∷ names) long = ap (λ (more : List ℕ). one ∷ two ∷ more) (named_entries entries names (omega arith))
 
+one_names_data : (old new : ChunkMap) (resources : Bool) (one : WholeEntry) (name : ℕ) → IsGained old new (size_of_data one) name → CanCome resources one → NamesData (entry_named one name)
+one_names_data old new resources (infos.Record attributes id, None) name is can = λ none. can.3 refl
+one_names_data old new resources (infos.Record attributes id, Some size) name is can = λ none. (let some = is.0 in absurd (omega arith))
+one_names_data old new resources (infos.Resource kind id, None) name is can = (let some = can.1 in absurd cc)
+one_names_data old new resources (infos.Resource kind id, Some size) name is can = is.0
+
 names_data : (old new : ChunkMap) (resources : Bool) (entries : List WholeEntry) (names : List ℕ) → AllZip (IsGained old new) (map size_of_data entries) names → All (CanCome resources) entries → All NamesData (entries_named entries names)
 names_data old new resources [] names zip all = All-nil NamesData
 names_data old new resources (one ∷ entries) [] zip all = absurd zip
-names_data old new resources ((infos.Record attributes id, None) ∷ entries) (name ∷ names) zip all =
-    All-cons NamesData _ (entries_named entries names) (λ none. (All-head (CanCome resources) (infos.Record attributes id, None) entries all).3 refl) (names_data old new resources entries names zip.1 (All-tail (CanCome resources) (infos.Record attributes id, None) entries all))
-names_data old new resources ((infos.Record attributes id, Some size) ∷ entries) (name ∷ names) zip all =
-    All-cons NamesData _ (entries_named entries names) (λ none. (let some = zip.0.0 in absurd (omega arith))) (names_data old new resources entries names zip.1 (All-tail (CanCome resources) (infos.Record attributes id, Some size) entries all))
-names_data old new resources ((infos.Resource kind id, None) ∷ entries) (name ∷ names) zip all =
-    let some = (All-head (CanCome resources) (infos.Resource kind id, None) entries all).1 in
-    absurd cc
-names_data old new resources ((infos.Resource kind id, Some size) ∷ entries) (name ∷ names) zip all =
-    let more = All-tail (CanCome resources) (infos.Resource kind id, Some size) entries all in
-    All-cons NamesData _ (entries_named entries names) zip.0.0
-    (names_data old new resources entries names zip.1 more)
+names_data old new resources (one ∷ entries) (name ∷ names) zip all =
+    All-cons NamesData (entry_named one name) (entries_named entries names) (one_names_data old new resources one name zip.0 (All-head (CanCome resources) one entries all))
+    (names_data old new resources entries names zip.1 (All-tail (CanCome resources) one entries all))
 
 whole_names_data : (old new : ChunkMap) (info : DbInfo) (blocks : BlockSizes) (entries : List WholeEntry) (names : List ℕ) → AllZip (IsGained old new) (data_sizes blocks entries) names → CanBeWhole info entries → All NamesData (entries_named entries (drop 2 names))
 whole_names_data old new info blocks entries [] zip can = absurd zip
@@ -60,10 +59,7 @@ ids_some resources ((infos.Resource kind id, size) ∷ entries) all = ids_some r
 whole_ids : (info : DbInfo) (entries : List WholeEntry) (names : List ℕ) → CanBeWhole info entries → HasUniqueIds (whole_database info entries names)
 whole_ids info entries names can =
     let ids = same_ids entries (drop 2 names) in
-    record {
-      none_zero = subst (λ (xs : List ℕ). All (λ id. id ≢ 0) xs) (sym ids) (ids_some (has_resources info.attributes) entries can.each);
-      distinct = subst (λ (xs : List ℕ). Distinct xs) (sym ids) can.ids;
-    }
+    record { none_zero = rw ids (ids_some (has_resources info.attributes) entries can.each); distinct = rw ids can.ids }
 
 -- ---- it comes after the others
 
