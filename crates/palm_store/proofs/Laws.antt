@@ -10,7 +10,7 @@ pub use Rattle.palm_store.proofs.GainedChunks.{IsSizeAt, freed_upto, makes_more,
 pub use Rattle.palm_store.proofs.GivenData.{attach_leaves, attach_steps, given, given_kept, given_kept_then, given_movable, given_no_directory, no_room_to_take, owned_none, swap_steps, takes_in, takes_none, written_then_owned}
 pub use Rattle.palm_store.proofs.InfoBlocks.{block_here, block_movable, block_no_directory, is_block, set_block_steps, take_block_steps}
 pub use Rattle.palm_store.proofs.KnownIds.{attributes_free, beside_named, change_free, come_free, emptied_gets, go_free, ids_here, left_beside, move_free, named_gets, nothing_known, raised_free, resource_beside, same_number, stand_still}
-pub use Rattle.palm_store.proofs.ListedSlots.{begun, chunk_of, directory_few, directory_loose, directory_owned, directory_short, extended, few_bytes, fresh_apart, given_back, grown_room, growth_short, listed_new, loose_movable, made_chunk, made_directory, made_here, made_movable, no_listing, put_here, sized_here, the_directory}
+pub use Rattle.palm_store.proofs.ListedSlots.{begun, chunk_of, directory_few, directory_loose, directory_owned, directory_short, extended, few_bytes, fresh_apart, given_back, grown_room, growth_short, loose_movable, made_chunk, made_here, made_movable, put_here, sized_here, the_directory}
 pub use Rattle.palm_store.proofs.Loans.{directory_here, loose_here, managers_here, none_lent, number_here, owned_here, seen_bytes}
 pub use Rattle.palm_store.proofs.Lookups.{answered, at_index, counted, no_index, told}
 pub use Rattle.palm_store.proofs.Maps.{bytes_held, owner_held}
@@ -21,5 +21,5 @@ pub use Rattle.palm_store.proofs.Numbers.{counts, directory_movable, directory_r
 pub use Rattle.palm_store.proofs.Rests.{then_moved, then_written}
 pub use Rattle.palm_store.proofs.StillOpen.{open_with_attributes, open_without_data}
 pub use Rattle.palm_store.proofs.WholeBytes.{Writes, body_now, entry_at, puts_front, start_room, then_rebodied, whole_fits, whole_header, whole_spelled, writes_all, writes_fits, writes_inside, writes_more, writes_none}
-pub use Rattle.palm_store.proofs.WholeChunks.{keeps_makes, listed_whole, no_listing_then, no_rest_room, same_bytes, whole_written}
+pub use Rattle.palm_store.proofs.WholeChunks.{keeps_makes, listed_new, listed_whole, made_directory, no_listing, no_listing_then, no_rest_room, same_bytes, whole_written}
 pub use Rattle.palm_store.proofs.Words.{AlreadyExists, AreOwnChunks, CanHave, Create, Database, DatabaseFits, Entry, FirstBrings, HasDataOf, HasLockedData, HeapAccepted, IfNone, IfSome, IsDataName, IsDatabaseName, IsEntryData, IsHeaderOf, IsHere, IsLent, IsMadeOf, IsMovable, IsOpened, IsSpelled, IsTaken, KeepsLoan, KnownIds, Leaves, LeavesStore, List, ListsNew, MakesWhole, MayBeGiven, MayOwn, Memory, Name, NewEntry, None, NotEnoughSpace, OnOk, OnlyWrites, Option, Refusal, Result, RunsOut, SetInfo, ShortFor, Some, StandsAs, Tells, [], a_record, accepted_spells, all_gone, ap, arith, below_more, both_ways, bytes_under, checks_of_attaching, checks_of_data_growth, checks_of_making, checks_of_whole, data_freed, data_in, data_owner, data_sizes, data_under, database_in, directory_bytes, directory_of, drop, dropped_to, empty_database, entries_here, entries_in, entries_named, entry_bytes, entry_changed, entry_count_in, entry_given, entry_here, entry_of, entry_offset, entry_under, entry_with, false, flat_map, get_or-map, gone, growth_checks, handed_on, has_resources, header_bytes, header_size, held, if_err, info_block, info_block_under, info_of, inl, inr, is_movable, keeps_itself, keeps_then, kept_then, kind_here, length, length-header_bytes, length-map, length-replicate, length-set, length-u32_bytes, listed, listing_part, listing_slots, makes_resource, makings, managers_loose, most_databases, most_entries, name_under, named_under, need, none_slid, numbers_in, on_err, overwritten, raised, refl, refused, replicate, resize_steps, resources_under, rewritten, rules, same_steps, size_of_data, sized, slides_then, spelled, stands_still, store_of, subst, sym, take, take-map, times, true, u32_at, whole_database, whole_parts, whole_slots, with_info, without_data, writes_then, ℕ, ◌*◌, ◌++◌, ◌+◌, ◌-◌, ◌<◌, ◌∙◌, ◌∷◌, ◌≡◌, ◌≢◌, ◌≤◌}

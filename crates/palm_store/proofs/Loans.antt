@@ -1,10 +1,9 @@
 -- What is not lent: chunks of the manager's, and those without a lock.
-use Rattle.palm_store.proofs.Words.{[], ◌≡◌, ◌≢◌, ℕ, ◌<◌, List, Option, Some, refl, sym, ap, subst, ◌∙◌, arith, inl, inr, cases_eq, Memory, SomeLent, HeapAccepted, directory_of, place_of, IsLent, LiveChunk, Of, IsLocked, held, owner_under, Accepted, directory_owner, Found, IsHere, IsMovable, StandsAs, lock_viewed, HasNumber, Ok, Err, IfOk, OnErr, managers_owner, callers_map, bytes_of, bytes_under, store_of, Name, Refusal, shown, OnLoan, KnownIds, IsStore, TakesOutOfStore}
-use Rattle.heap_model.specs.Memory.{Lent}
+use Rattle.palm_store.proofs.Words.{[], ◌≡◌, ◌≢◌, ℕ, List, Some, refl, sym, ap, ◌∙◌, arith, inl, inr, cases_eq, Memory, HeapAccepted, directory_of, IsLent, LiveChunk, Of, IsLocked, held, owner_under, Accepted, directory_owner, Found, IsHere, IsMovable, StandsAs, lock_viewed, HasNumber, Ok, Err, IfOk, OnErr, callers_map, bytes_of, bytes_under, store_of, Name, Refusal, shown, OnLoan, KnownIds, IsStore, TakesOutOfStore}
 use Rattle.mem_manager.proofs.ChunkCalls.{lock_small}
 use Rattle.palm_store.proofs.Maps.{owner_held}
 use Rattle.palm_store.proofs.Numbers.{number_slot}
-use Rattle.std.specs.Prelude.{Result, None, replicate, length}
+use Rattle.std.specs.Prelude.{Result, replicate, length}
 use Rattle.laws_store.proofs.MemoryCalls.{known_owner}
 use Rattle.mem_manager.specs.Loans as loans
 use Rattle.palm_store.proofs.FilledData.{rewritten_steps}
@@ -12,7 +11,7 @@ use Rattle.palm_store.proofs.KnownIds.{stand_still}
 
 -- where nothing is lent
 pub none_lent : (memory : Memory) (name : ℕ) → memory.lents ≡ [] → IsLent memory name → ⊥
-none_lent memory name none lent = subst (λ (x : List Lent). SomeLent (λ l. place_of memory.bytes name ≡ Some l.at) x) none lent
+none_lent memory name none lent = rw none at lent
 
 -- ---- chunks of the manager's
 
@@ -35,43 +34,31 @@ loose_here memory name found live h s there none unlocked = record { not_lent = 
 
 -- a movable one that isn't locked has none
 pub unlocked_here : (memory : Memory) (name : ℕ) (found : Found) → HeapAccepted memory.bytes → StandsAs memory.bytes name found → IsMovable memory.bytes name → (Of (held memory.bytes name) IsLocked → ⊥) → (found.lock ≡ 0 → IsLent memory name → ⊥) → IsHere memory name
-unlocked_here memory name found h s m not_locked unlocked = record { not_lent = λ other lent. unlocked no_lock lent } where
-  lock : found.lock ≡ m.live.lock
-  lock = lock_viewed memory memory name found m.live refl h s.is m.is_held
-
-  least : 0 < found.lock → ⊥
-  least some =
-      let most = lock_small memory.bytes name found h s.is in
-      let loose = s.movable in
-      let is = lock in
-      not_locked (subst (λ (o : Option LiveChunk). Of o IsLocked) (sym m.is_held) (omega (arith, some, is), omega (arith, most, loose, is)))
-
-  no_lock : found.lock ≡ 0
-  no_lock = elim (cases_eq found.lock 0) [ inl none ↦ none | inr some ↦ absurd (least (omega (arith, some))) ]
+unlocked_here memory name found h s m not_locked unlocked =
+    let lock = lock_viewed memory memory name found m.live refl h s.is m.is_held in
+    let most = lock_small memory.bytes name found h s.is in
+    let none : found.lock ≡ 0 = elim (cases_eq found.lock 0) [
+      | inl none ↦ none
+      | inr some ↦ absurd (not_locked (rw m.is_held (omega (arith, some, lock), omega (arith, most, s.movable, lock))))
+    ] in
+    record { not_lent = λ other lent. unlocked none lent }
 
 -- ---- bytes that are taken out
-
--- what is taken out has an owner other than the manager, so the store has it
-pub out_owned : (image : List ℕ) (name : ℕ) → (callers_map image name ≡ None → ⊥) → owner_under image name ≢ managers_owner
-unfolding owner_under
-out_owned image name known = known_owner (held image name) known
-
-pub out_bytes : (image : List ℕ) (name : ℕ) → owner_under image name ≢ managers_owner → bytes_under image name ≡ bytes_of ((store_of image).map name)
-unfolding store_of owner_under bytes_under
-out_bytes image name own = sym (ap bytes_of (shown (held image name) own))
 
 -- what callers see of a heap's chunk, they see of a store's
 pub seen_bytes : (image : List ℕ) (name : ℕ) (bytes : List ℕ) → bytes_of (callers_map image name) ≡ bytes → bytes_of ((store_of image).map name) ≡ bytes
 unfolding store_of
 seen_bytes image name bytes is = is
 
+-- what is taken out has an owner other than the manager, so the store has it
 pub takes_out : (old new : Memory) (name : Name) (result : Result OnLoan Refusal) → Accepted old.bytes → IfOk result (λ loan. loans.TakesOut old new name loan) → IfOk result (λ loan. TakesOutOfStore old new name loan)
+unfolding store_of owner_under bytes_under
 takes_out old new name (Ok loan) a t =
-    let own = out_owned old.bytes name.0 t.could.0 in
+    let own = known_owner (held old.bytes name.0) t.could.0 in
     record {
       could = t.could;
       name_is = t.name_is;
-      bytes = t.bytes ∙ out_bytes old.bytes name.0 own;
+      bytes = t.bytes ∙ sym (ap bytes_of (shown (held old.bytes name.0) own));
       leaves = rewritten_steps old.bytes new.bytes name.0 (replicate (length loan.part.bytes) 0) a own t.leaves;
       out = t.out;
       is_lent = t.is_lent;
@@ -88,4 +75,4 @@ pub takes_replied : (old new : Memory) (name : Name) (known : KnownIds) (result 
 takes_replied old new name known (Ok loan) s t same =
     let left = (takes_out old new name (Ok loan) s.accepted t).leaves in
     record { accepted = left.accepted; free = stand_still (store_of old.bytes) (store_of new.bytes) known left.same.databases s.free }
-takes_replied old new name known (Err refusal) s t same = subst (λ (m : Memory). IsStore m.bytes known) (sym same) s
+takes_replied old new name known (Err refusal) s t same = rw same s

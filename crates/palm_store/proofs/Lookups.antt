@@ -1,6 +1,6 @@
 -- Calls that ask of the databases of a store. They leave the region as it is, so of each its
 -- refusals and its answer are left to show.
-use Rattle.palm_store.proofs.Words.{◌≡◌, ◌≢◌, ℕ, ◌<◌, ◌≤◌, List, length, map, get_or, Bool, Option, Some, None, Result, refl, sym, ap, subst, ◌∙◌, arith, inl, All-map, get_or_default_zero, slice_get-get_or, ◌↔◌, All, slice_get, IsTrue, IfSome, IfNone, is_some, ok_or, Memory, DatabaseHeader, Database, header_in, database_in, StoredDatabase, bytes_under, listed, database_under, databases, numbers_of, names_of, Accepted, store_of, IsTaken, info_of, reply_of, DoesInStore, Db, DbInfo, Find, Nth, Count, Info, Refusal, NoSuchDatabase, all-times, map-All, listed_numbers, asks, same_store, refused, DbHeader, IsHeaderOf, info_told, HasNumber, HasOtherName, name_under, number_some}
+use Rattle.palm_store.proofs.Words.{◌≡◌, ◌≢◌, ℕ, ◌<◌, ◌≤◌, List, length, map, get_or, Bool, Option, Some, None, Result, refl, sym, ap, ◌∙◌, arith, inl, All-map, get_or_default_zero, slice_get-get_or, ◌↔◌, All, slice_get, IsTrue, IfSome, IfNone, is_some, ok_or, Memory, Database, header_in, database_in, StoredDatabase, bytes_under, listed, database_under, databases, numbers_of, names_of, Accepted, store_of, IsTaken, info_of, reply_of, DoesInStore, Db, DbInfo, Find, Nth, Count, Info, Refusal, NoSuchDatabase, all-times, map-All, listed_numbers, asks, same_store, refused, DbHeader, IsHeaderOf, info_told, HasNumber, HasOtherName, name_under, number_some}
 use Rattle.heap_model.specs.declared.call.Call.TheVariants as calls
 use Rattle.heap_model.specs.declared.call.Reply.TheVariants as replies
 use Rattle.palm_store.proofs.Numbers.{number_listed, has_number_is, in_store, length-databases, database_at, listed_at, number_of_slot}
@@ -38,22 +38,15 @@ found region name db a has e =
 
 pub taken_at : (image name : List ℕ) (db index : ℕ) → index < length (listed image) → get_or (listed image) index 0 ≢ db → name_under image (get_or (listed image) index 0) ≡ name → IsTaken (store_of image) db name
 unfolding store_of
-taken_at image name db index below other e =
-    let many = length-databases image in
-    let slot : ℕ = get_or (listed image) index 0 in
-    (index, database_under image slot, omega arith, database_at image index (database_under image slot) below, (other, name_read image slot ∙ e))
+taken_at image name db index below other e = (index, database_under image (get_or (listed image) index 0), omega (arith, length-databases image), database_at image index _ below, (other, name_read image _ ∙ e))
 
 pub not_taken : (image name : List ℕ) (db : ℕ) → ((k : ℕ) → k < length (listed image) → get_or (listed image) k 0 ≢ db → name_under image (get_or (listed image) k 0) ≡ name → ⊥) → IsTaken (store_of image) db name → ⊥
 unfolding store_of
-not_taken image name db none is =
-    let many = length-databases image in
-    let index : ℕ = is.0 in
-    let one : StoredDatabase = is.1 in
-    let inside = is.2 in
-    let below : index < length (listed image) = omega arith in
-    let same : database_under image (get_or (listed image) index 0) ≡ one = sym (database_at image index one below) ∙ is.3 in
-    none index below (λ e. is.4.0 (ap (λ (stored : StoredDatabase). stored.db) (sym same) ∙ e))
-    (sym (name_read image (get_or (listed image) index 0)) ∙ ap (λ (stored : StoredDatabase). stored.database.header.name) same ∙ is.4.1)
+not_taken image name db none (index, one, inside, there, (other, named)) =
+    let below : index < length (listed image) = omega (arith, length-databases image, inside) in
+    let same = sym (database_at image index one below) ∙ there in
+    none index below (λ e. other (ap (λ (stored : StoredDatabase). stored.db) (sym same) ∙ e))
+    (sym (name_read image (get_or (listed image) index 0)) ∙ ap (λ (stored : StoredDatabase). stored.database.header.name) same ∙ named)
 
 -- a name of another database is taken
 pub taken_by : (image name : List ℕ) (db other : ℕ) → HasOtherName image db name other → IsTaken (store_of image) db name
@@ -69,60 +62,36 @@ other_taken image name db None is has none e = (λ yes. absurd cc, λ taken. abs
 pub not_found : (region : Memory) (name : List ℕ) → Accepted region.bytes → (IsTaken (store_of region.bytes) 0 name → ⊥) → DoesInStore region (calls.Database (Find name)) (replies.Refused NoSuchDatabase) region
 unfolding store_of
 not_found region name a free =
-    let none : (k : ℕ) → k < length (listed region.bytes) → name_under region.bytes (get_or (listed region.bytes) k 0) ≢ name = λ k below e.
-    free (taken_at region.bytes name 0 k below (λ zero. (let some = number_some region.bytes (get_or (listed region.bytes) k 0) a (number_of_slot region.bytes k below) in omega arith)) e) in
-    refused region (calls.Database (Find name)) NoSuchDatabase a (inl (all_other_names region.bytes name none, refl))
+    let none = all_other_names region.bytes name (λ k below e.
+    free (taken_at region.bytes name 0 k below (λ zero. omega (arith, number_some region.bytes (get_or (listed region.bytes) k 0) a (number_of_slot region.bytes k below))) e)) in
+    refused region (calls.Database (Find name)) NoSuchDatabase a (inl (none, refl))
 
 -- what is found by a name, or that nothing is
 pub answered : (region : Memory) (name given : List ℕ) (named : Option Db) (result : Result Db Refusal) → Accepted region.bytes → given ≡ name → IfSome named (λ db. HasOtherName region.bytes 0 given db.0) → IfNone named (IsTaken (store_of region.bytes) 0 given → ⊥)
     → result ≡ ok_or named NoSuchDatabase → DoesInStore region (calls.Database (Find name)) (reply_of (λ db. replies.Database db) result) region
-answered region name given (Some db) result a same has none e =
-    subst (λ (r : Result Db Refusal). DoesInStore region (calls.Database (Find name)) (reply_of (λ db. replies.Database db) r) region) (sym e) (found region name db a has.number (has.named ∙ same))
-answered region name given None result a same has none e =
-    subst (λ (r : Result Db Refusal). DoesInStore region (calls.Database (Find name)) (reply_of (λ db. replies.Database db) r) region) (sym e)
-    (not_found region name a (subst (λ (n : List ℕ). IsTaken (store_of region.bytes) 0 n → ⊥) same none))
+answered region name given (Some db) result a same has none e = rw e (found region name db a has.number (has.named ∙ same))
+answered region name given None result a same has none e = rw e (not_found region name a (rw same at none))
 
 -- ---- by index
 
 pub at_index : (region : Memory) (index : ℕ) (db : Db) → Accepted region.bytes → index < length (listed region.bytes) → db.0 ≡ get_or (listed region.bytes) index 0 → DoesInStore region (calls.Database (Nth index)) (replies.Database db) region
 unfolding store_of
 at_index region index db a below is =
-    let many = length-databases region.bytes in
-    let there : slice_get (numbers_of (databases region.bytes)) index ≡ Some db.0 =
-    ap (λ (slots : List ℕ). slice_get slots index) (sym (listed_numbers region.bytes)) ∙ slice_get-get_or (listed region.bytes) index 0 below ∙ ap (λ (slot : ℕ). Some slot) (sym is) in
-    asks region (calls.Database (Nth index)) (replies.Database db) a ((λ behind. omega arith, tt), (there, same_store region))
+    let there : slice_get (numbers_of (databases region.bytes)) index ≡ Some db.0 = rw (← listed_numbers region.bytes, is) (slice_get-get_or (listed region.bytes) index 0 below) in
+    asks region (calls.Database (Nth index)) (replies.Database db) a ((λ behind. omega (arith, length-databases region.bytes), tt), (there, same_store region))
 
 pub no_index : (region : Memory) (index : ℕ) → Accepted region.bytes → length (listed region.bytes) ≤ index → DoesInStore region (calls.Database (Nth index)) (replies.Refused NoSuchDatabase) region
 unfolding store_of
-no_index region index a behind = let many = length-databases region.bytes in refused region (calls.Database (Nth index)) NoSuchDatabase a (inl (omega arith, refl))
+no_index region index a behind = refused region (calls.Database (Nth index)) NoSuchDatabase a (inl (omega (arith, length-databases region.bytes), refl))
 
 pub counted : (region : Memory) (count : ℕ) → Accepted region.bytes → count ≡ length (listed region.bytes) → DoesInStore region (calls.Database Count) (replies.Number count) region
 unfolding store_of
-counted region count a is = let many = length-databases region.bytes in asks region (calls.Database Count) (replies.Number count) a (tt, (omega arith, same_store region))
-
--- ---- by number
-
--- what is told of a header, and of how many entries
-abbrev pub info_with : DatabaseHeader → ℕ → DbInfo
-info_with header entries = record {
-  name = header.name;
-  attributes = header.attributes;
-  version = header.version;
-  creation_date = header.creation_date;
-  modification_date = header.modification_date;
-  backup_date = header.backup_date;
-  modification_number = header.modification_number;
-  kind = header.kind;
-  creator = header.creator;
-  seed = header.seed;
-  entry_count = entries;
-}
+counted region count a is = asks region (calls.Database Count) (replies.Number count) a (tt, (omega (arith, length-databases region.bytes), same_store region))
 
 pub info_read : (database : Database ℕ) (header : DbHeader) → IsHeaderOf database header → info_told header ≡ info_of database
-info_read database header has =
-    ap (λ (h : DatabaseHeader). info_with h header.entry_count) has.values ∙ ap (info_with database.header) has.entry_count
+info_read database header has = rw (← has.values, ← has.entry_count) refl
 
 pub told : (region : Memory) (db : Db) (info : DbInfo) → Accepted region.bytes → HasNumber region.bytes db.0 → info ≡ info_of (database_in (bytes_under region.bytes db.0)) → DoesInStore region (calls.Database (Info db)) (replies.Info info) region
 told region db info a has is =
-    let found = has_number_is region.bytes db.0 has in
-    asks region (calls.Database (Info db)) (replies.Info info) a ((λ none. (let apart = sym found ∙ none in absurd cc), tt), (in_store region.bytes db (λ (database : Database ℕ). info ≡ info_of database) has is, same_store region))
+    asks region (calls.Database (Info db)) (replies.Info info) a
+    ((λ none. (let apart = sym (has_number_is region.bytes db.0 has) ∙ none in absurd cc), tt), (in_store region.bytes db (λ (database : Database ℕ). info ≡ info_of database) has is, same_store region))

@@ -1,5 +1,20 @@
--- What names stand for after one of them changed, and what stays where it is through two calls.
-use Rattle.palm_store.proofs.Words.{◌≡◌, ◌≢◌, ℕ, ◌<◌, List, Option, Some, None, refl, sym, ap, ◌∙◌, arith, eq-eqb, ne_eqb, ◌==◌, is_some, HeapAccepted, LiveChunk, ChunkMap, held, Still, times, Leaves, bytes_of, owner_of, bytes_under, owner_under, all_gone, cond-true, cond-false, owned_some}
+-- What names stand for after some of them changed, and what stays where it is through two calls.
+use Rattle.palm_store.proofs.Words.{◌≡◌, ◌≢◌, ℕ, ◌<◌, List, Option, Some, None, refl, ap, ◌∙◌, arith, eq-eqb, ne_eqb, ◌==◌, is_some, HeapAccepted, LiveChunk, ChunkMap, held, updated, changed, changed_at, Still, times, Leaves, bytes_of, owner_of, bytes_under, owner_under, all_gone, cond-true, cond-false, owned_some}
+use Rattle.laws_store.proofs.Edited.{here as updated_here, apart as updated_apart}
+
+-- ---- one name that changed
+
+-- it stands for this now
+pub name_now : {old new : List ℕ} (name : ℕ) (now : Option LiveChunk) → Leaves old new (updated (held old) name now) → held new name ≡ now
+name_now {old} name now l = l.map name ∙ updated_here (held old) name now name refl
+
+-- its chunk was changed
+pub chunk_now : {old new : List ℕ} (name : ℕ) (change : LiveChunk → LiveChunk) {live : LiveChunk} → Leaves old new (changed_at (held old) name change) → held old name ≡ Some live → held new name ≡ Some (change live)
+chunk_now name change l e = name_now name _ l ∙ ap (changed change) e
+
+-- every other name stands for what it stood for
+pub others_now : {old new : List ℕ} (name : ℕ) (now : Option LiveChunk) → Leaves old new (updated (held old) name now) → (other : ℕ) → other ≢ name → held new other ≡ held old other
+others_now {old} name now l other ne = l.map other ∙ updated_apart (held old) name now other ne
 
 -- ---- a map without some names
 
@@ -49,17 +64,6 @@ owned image name owner own low = by (held image name) refl own where
 pub held_some : (image : List ℕ) (name : ℕ) (live : LiveChunk) → HeapAccepted image → held image name ≡ Some live → live.owner < 16 → 0 < name
 held_some image name live h e low = owned_some image name live.owner h (owner_held image name live e) low
 
--- ---- what stays
-
+-- what stays through two calls
 pub still_through : (old mid new : List ℕ) → Still old mid → Still mid new → ((name : ℕ) (live : LiveChunk) → held old name ≡ Some live → 0 < live.lock → held mid name ≡ Some live) → Still old new
 still_through old mid new first second kept name live e locked there = second name live (kept name live e locked) locked there ∙ first name live e locked (ap is_some (kept name live e locked))
-
--- a chunk with a lock is another than one that had none
-pub kept_apart : (old mid : List ℕ) (changed : ℕ) → ((name : ℕ) → name ≢ changed → held mid name ≡ held old name) → ((live : LiveChunk) → held old changed ≡ Some live → live.lock ≡ 0) → (name : ℕ) (live : LiveChunk) → held old name ≡ Some live → 0 < live.lock
-    → held mid name ≡ Some live
-kept_apart old mid changed others loose name live e locked = others name (λ same. (let none = loose live (sym (ap (held old) same) ∙ e) in omega arith)) ∙ e
-
-pub none_loose : (o : Option LiveChunk) → o ≡ None → (live : LiveChunk) → o ≡ Some live → live.lock ≡ 0
-none_loose o none live e = absurd (no_both o live none e) where
-  no_both : (o : Option LiveChunk) (live : LiveChunk) → o ≡ None → o ≡ Some live → ⊥
-  no_both o live none e = cc

@@ -1,60 +1,45 @@
 -- A new entry that came to a database with a chunk for its data, or found no room.
-use Rattle.palm_store.proofs.Words.{◌≡◌, ◌≢◌, ℕ, ◌+◌, ◌<◌, ◌≤◌, Bool, List, [], ◌∷◌, length, replicate, Option, Some, None, refl, sym, ap, subst, ◌∙◌, arith, inl, inr, cases_eq, ◌⊎◌, Memory, need, data_owner, HeapAccepted, directory_of, LiveChunk, held, gone, made, callers_map, free_slots, rooms, ShortFor, Lowers, making, growth_part, Stuck, entry_size, Entry, a_record, a_resource, entry_data, entry_with, Database, database_in, spelled, EntryFits, IsSpelled, owner_of, bytes_under, owner_under, databases, unique_ids, Accepted, store_of, NamesData, Leaves, Respells, rewritten, SpellsHere, database_here, most_entries, entries_in, resources_under, with_entry_at, entry_made, raised, LeavesStore, StoreAsBefore, Db, frame_then, as_before, MakesNew, HasNewId, managers_loose, fresh_new, inserted_sound, inserted_names, raised_sound, seeded_name, one_change, edit_steps, made_edit, same_steps, accepted_sound, in_here, in_store, entries_here, kind_here, owned_some, directory_owner, made_then_short, entry_inserted, HasNoRoomForEntry, HasNumber, NewEntry, IsMadeOf, PutsIn, bytes_like}
+use Rattle.palm_store.proofs.Words.{◌≡◌, ◌≢◌, ℕ, ◌+◌, ◌<◌, ◌≤◌, Bool, List, [], ◌∷◌, length, replicate, Option, Some, None, refl, sym, ap, subst, ◌∙◌, arith, inr, ◌⊎◌, Memory, need, data_owner, HeapAccepted, directory_of, LiveChunk, held, made, callers_map, free_slots, rooms, Lowers, making, growth_part, Stuck, entry_size, Entry, a_record, a_resource, entry_data, entry_with, Database, database_in, EntryFits, bytes_under, owner_under, databases, unique_ids, Accepted, store_of, NamesData, Leaves, Respells, SpellsHere, database_here, most_entries, entries_in, resources_under, with_entry_at, entry_made, raised, LeavesStore, StoreAsBefore, Db, as_before, MakesNew, HasNewId, managers_loose, fresh_new, inserted_sound, inserted_names, raised_sound, seeded_name, one_change, edit_steps, made_edit, same_steps, accepted_sound, in_here, in_store, entries_here, kind_here, owned_some, made_then_short, entry_inserted, HasNoRoomForEntry, HasNumber, NewEntry, IsMadeOf, PutsIn, bytes_like}
 use Rattle.heap_model.specs.UniqueIds.{IsFresh, seed_in}
-use Rattle.laws_store.proofs.Edited.{here as updated_here, apart as updated_apart}
+use Rattle.laws_store.proofs.Edited.{owner_now}
 use Rattle.palm_store.specs.declared.entries.infos.EntryInfo.TheVariants as new
 use Rattle.palm_store.proofs.EntryChanges.{then_raised}
-use Rattle.palm_store.proofs.TwoSteps.{then_respelled, database_kept, still_between}
+use Rattle.palm_store.proofs.Maps.{others_now, owner_none, owner_alike, owned}
+use Rattle.palm_store.proofs.ListedSlots.{made_apart}
+use Rattle.palm_store.proofs.TwoSteps.{then_respelled, database_kept}
+-- The chunk may be freed again.
+pub use Rattle.palm_store.proofs.ListedSlots.{given_back}
 
 -- ---- when the chunk was made
 
-chunk_made : ℕ → Option LiveChunk
+abbrev chunk_made : ℕ → Option LiveChunk
 chunk_made size = Some (record { bytes = replicate size 0; lock = 0; owner = data_owner })
 
 -- a name that stood for nothing isn't the database's
-pub fresh_apart : (image : List ℕ) (db name : ℕ) → SpellsHere image db → held image name ≡ None → name ≢ db
-unfolding owner_under
-fresh_apart image db name s none e = (let owner = s.owner in let nothing : owner_under image db ≡ 16 = ap (λ (n : ℕ). owner_under image n) (sym e) ∙ ap owner_of none in omega arith)
+fresh_name : (image : List ℕ) (db name : ℕ) → SpellsHere image db → held image name ≡ None → name ≢ db
+fresh_name image db name s none e = (let own = ap (owner_under image) e ∙ s.owner in let nothing = owner_none image name none in omega arith)
 
-pub db_kept : (old mid : List ℕ) (db name size : ℕ) → SpellsHere old db → MakesNew old mid name size 15 → held mid db ≡ held old db
-unfolding chunk_made
-db_kept old mid db name size s m = m.leaves.map db ∙ updated_apart (held old) name (chunk_made size) db (λ e. fresh_apart old db name s m.fresh (sym e))
+db_kept : (old mid : List ℕ) (db name size : ℕ) → SpellsHere old db → MakesNew old mid name size 15 → held mid db ≡ held old db
+db_kept old mid db name size s m = others_now name _ m.leaves db (λ e. fresh_name old db name s m.fresh (sym e))
 
 -- the database is spelled as it was
 pub spells_still : (old mid : List ℕ) (db name size : ℕ) → SpellsHere old db → MakesNew old mid name size 15 → SpellsHere mid db
-unfolding owner_under
 spells_still old mid db name size s m =
     let kept = db_kept old mid db name size s m in
-    record {
-      heap = m.leaves.frame.accepted;
-      owner = ap owner_of kept ∙ s.owner;
-      spelled = subst (λ (bytes : List ℕ). IsSpelled (database_in bytes) bytes) (sym (bytes_like old mid db kept)) s.spelled;
-    }
+    record { heap = m.leaves.frame.accepted; owner = owner_alike old mid db kept ∙ s.owner; spelled = rw (bytes_like old mid db kept) s.spelled }
 
 pub database_still : (old mid : List ℕ) (db name size : ℕ) → SpellsHere old db → MakesNew old mid name size 15 → database_here mid db ≡ database_here old db
 database_still old mid db name size s m = database_kept old mid db (db_kept old mid db name size s m)
 
-made_here : (old mid : List ℕ) (name size : ℕ) → MakesNew old mid name size 15 → held mid name ≡ chunk_made size
-unfolding chunk_made
-made_here old mid name size m = m.leaves.map name ∙ updated_here (held old) name (chunk_made size) name refl
-
 pub made_no_directory : (old mid : List ℕ) (name size : ℕ) → HeapAccepted old → MakesNew old mid name size 15 → name ≢ directory_of mid
-unfolding owner_under chunk_made
-made_no_directory old mid name size h m e =
-    let own : owner_under mid name ≡ 15 = ap owner_of (made_here old mid name size m) in
-    let some = owned_some mid name 15 m.leaves.frame.accepted own (omega arith) in
-    let nothing : owner_under old name ≡ 16 = ap owner_of m.fresh in
-    let directory = ap (owner_under old) (e ∙ m.leaves.frame.directory) ∙ directory_owner old h (let same_word = m.leaves.frame.directory in omega arith) in
-    omega arith
+made_no_directory old mid name size h m = made_apart old mid name size (omega arith) h m
 
--- ---- the entry is put in
-
+-- the entry is put in
 pub puts_in : (old mid new : List ℕ) (db at : ℕ) (entry after : Entry ℕ) (name size : ℕ) → SpellsHere old db → MakesNew old mid name size 15 → after ≡ entry → Respells mid new db (entry_inserted at after (database_here mid db)) → PutsIn old new db at entry name size
-unfolding chunk_made
 puts_in old mid new db at entry after name size s m is l = record {
   fresh = m.fresh;
-  leaves = then_respelled old mid new db name (entry_inserted at entry (database_here old db)) (chunk_made size) (fresh_apart old db name s m.fresh) m.fresh m.leaves
-      (subst (λ (e : Entry ℕ). Respells mid new db (entry_inserted at e (database_here old db))) is (subst (λ (d : Database ℕ). Respells mid new db (entry_inserted at after d)) (database_still old mid db name size s m) l));
+  leaves = then_respelled old mid new db name (entry_inserted at entry (database_here old db)) (chunk_made size) (fresh_name old db name s m.fresh) m.fresh m.leaves
+      (rw (is, database_still old mid db name size s m) at l);
 }
 
 -- ---- there was no room
@@ -66,11 +51,7 @@ pub record Header (image : List ℕ) (db : ℕ) : Type 0 where
   pub loose : live.lock ≡ 0
 
 pub header : (image : List ℕ) (db : ℕ) → SpellsHere image db → Header image db
-unfolding owner_under
-header image db s = by (held image db) refl s.owner where
-  by : (o : Option LiveChunk) → held image db ≡ o → owner_of o ≡ 0 → Header image db
-  by None e own = absurd (omega arith)
-  by (Some live) e own = record { live = live; there = e; loose = managers_loose image db live s.heap e own }
+header image db s = (let o = owned image db 0 s.owner (omega arith) in record { live = o.live; there = o.there; loose = managers_loose image db o.live s.heap o.there o.own })
 
 pub no_header_room : (old mid : List ℕ) (db : Db) (name size : ℕ) (resources : Bool) → resources ≡ resources_under (store_of old) db → SpellsHere old db.0 → MakesNew old mid name size 15 → Lowers old mid (need size)
     → HasNoRoomForEntry mid db.0 resources
@@ -78,27 +59,8 @@ pub no_header_room : (old mid : List ℕ) (db : Db) (name size : ℕ) (resources
 no_header_room old mid db name size resources kind s m lowers short =
     let kept = db_kept old mid db.0 name size s m in
     let head = header old db.0 s in
-    let count : length (bytes_under mid db.0) + entry_size resources ≡ length (bytes_under old db.0) + entry_size (resources_under (store_of old) db) =
-    ap (λ (bytes : List ℕ). length bytes + entry_size resources) (bytes_like old mid db.0 kept) ∙ ap (λ (k : Bool). length (bytes_under old db.0) + entry_size k) kind in
     inr (made_then_short old mid (need size) db.0 (length (bytes_under old db.0) + entry_size (resources_under (store_of old) db)) head.live m.leaves.frame.accepted lowers head.there (kept ∙ head.there) head.loose
-    (subst (λ (n : ℕ). ShortFor mid db.0 (need n)) count short))
-
--- the chunk is freed again
-pub given_back : (old mid new : List ℕ) (name size : ℕ) → MakesNew old mid name size 15 → Leaves mid new (gone (held mid) name) → Leaves old new (held old)
-unfolding chunk_made
-given_back old mid new name size m g = record {
-  map = λ other. elim (cases_eq other name) [
-    | inl e ↦ g.map other ∙ updated_here (held mid) name None other e ∙ sym (ap (held old) e ∙ m.fresh)
-    | inr ne ↦ g.map other ∙ updated_apart (held mid) name None other ne ∙ m.leaves.map other ∙ updated_apart (held old) name (chunk_made size) other ne
-  ];
-  frame = frame_then old mid new m.leaves.frame g.frame;
-  still = still_between old mid new m.leaves.still g.still (λ other live e locked there. elim (cases_eq other name) [
-    | inl is ↦ absurd (no_both (held old name) live m.fresh (ap (held old) (sym is) ∙ e))
-    | inr ne ↦ (live, m.leaves.map other ∙ updated_apart (held old) name (chunk_made size) other ne ∙ e, locked)
-  ]);
-} where
-  no_both : (o : Option LiveChunk) (live : LiveChunk) → o ≡ None → o ≡ Some live → ⊥
-  no_both o live none e = cc
+    (rw (bytes_like old mid db.0 kept, kind) at short))
 
 -- ---- the step of the store
 
@@ -123,27 +85,22 @@ new_id image db (new.Resource kind id) slot one has is = subst (HasNewId (unique
 
 -- the name of the data is not 0
 put_some : (old after : List ℕ) (db at : ℕ) (entry : Entry ℕ) (slot size : ℕ) → PutsIn old after db at entry slot size → 0 < slot
-unfolding owner_under chunk_made
-put_some old after db at entry slot size puts =
-    let here = updated_here (rewritten (held old) db (spelled (entry_inserted at entry (database_here old db)))) slot (chunk_made size) slot refl in
-    owned_some after slot 15 puts.leaves.frame.accepted (ap owner_of (puts.leaves.map slot ∙ here)) (omega arith)
+put_some old after db at entry slot size puts = owned_some after slot 15 puts.leaves.frame.accepted (owner_now old after db _ slot (chunk_made size) [] puts.leaves) (omega arith)
 
 -- the entry that comes names its data
 pub new_leaves : (old after : List ℕ) (db : Db) (at : ℕ) (entry : NewEntry) (one : Entry ℕ) (kind : Bool) (slot size : ℕ) → Accepted old → HasNumber old db.0 → IsMadeOf (store_of old) db entry 0 one → PutsIn old after db.0 at (entry_with (λ none. slot) one) slot size
     → kind ≡ resources_under (store_of old) db → EntryFits kind (entry_with (λ none. slot) one) → at ≤ length (entries_in (store_of old) db) → length (entries_in (store_of old) db) < most_entries
     → LeavesStore old after (raised (entry_made (store_of old) db at (entry_with (λ none. slot) one) size) db)
-unfolding store_of chunk_made
+unfolding store_of
 new_leaves old after db at entry one kind slot size a has is puts same_kind fits inside few =
     let d : Database ℕ = database_here old db.0 in
-    let some = put_some old after db.0 at (entry_with (λ none. slot) one) slot size puts in
     let one_made : Entry ℕ = entry_with (λ none. slot) one in
     let name = named_so slot one in
-    let made_is = made_of old db entry slot one is in
     let count = ap length (entries_here old db has) in
     let put_in : Database ℕ → Database ℕ = with_entry_at at one_made in
-    let sound = inserted_sound d at one_made (accepted_sound old db.0 a has) (subst (λ (k : Bool). EntryFits k one_made) (same_kind ∙ kind_here old db has) fits) (names_some slot one some) (new_id old db entry slot one_made has made_is) (omega arith) (omega arith) in
-    let leaves = subst (λ (n : ℕ). Leaves old after (made (rewritten (held old) db.0 (spelled (entry_inserted at one_made d))) n size data_owner 0)) (sym name) puts.leaves in
-    let edit = made_edit old after db.0 (entry_inserted at one_made d) (entry_data one_made) size leaves (ap (held old) name ∙ puts.fresh) (raised_sound (put_in d) sound) (seeded_name one_made d.header) (λ q. inserted_names q d at one_made) in
+    let sound = inserted_sound d at one_made (accepted_sound old db.0 a has) (rw (same_kind ∙ kind_here old db has) at fits) (names_some slot one (put_some old after db.0 at one_made slot size puts))
+    (new_id old db entry slot one_made has (made_of old db entry slot one is)) (omega arith) (omega arith) in
+    let edit = made_edit old after db.0 (entry_inserted at one_made d) (entry_data one_made) size (rw name puts.leaves) (ap (held old) name ∙ puts.fresh) (raised_sound (put_in d) sound) (seeded_name one_made d.header) (λ q. inserted_names q d at one_made) in
     then_raised old after db put_in (record { map = made (callers_map old) (entry_data one_made) size data_owner 0; databases = databases old })
     (edit_steps old after db (entry_inserted at one_made) (one_change (entry_data one_made) (chunk_made size)) a has edit)
 
@@ -156,18 +113,16 @@ new_steps old after db at entry one kind slot size a has is puts same_kind fits 
   new_leaves old after db at entry one kind slot size a has is puts same_kind fits inside few,
 )
 
--- ---- a new record
-
+-- a new record
 pub record_made : (image body : List ℕ) (db : Db) (attributes given id : ℕ) → HasNumber image db.0 → body ≡ bytes_under image db.0 → IsFresh (unique_ids (database_in body)) (seed_in (database_in body).header.seed) id → given ≡ attributes
     → IsMadeOf (store_of image) db (new.Record attributes tt) 0 (a_record given id 0)
 record_made image body db attributes given id has body_is fresh is = (
   id,
-  in_store image db (λ (database : Database ℕ). IsFresh (unique_ids database) (seed_in database.header.seed) id) has (subst (λ (xs : List ℕ). IsFresh (unique_ids (database_in xs)) (seed_in (database_in xs).header.seed) id) body_is fresh),
-  ap (λ (a : ℕ). a_record a id 0) is,
+  in_store image db (λ (database : Database ℕ). IsFresh (unique_ids database) (seed_in database.header.seed) id) has (rw body_is at fresh),
+  rw is refl,
 )
 
--- ---- a refusal leaves the store as it was
-
+-- a refusal leaves the store as it was
 pub left_as_before : (old new : Memory) → Accepted old.bytes → Leaves old.bytes new.bytes (held old.bytes) → StoreAsBefore old new
 left_as_before old new a l =
     let same = same_steps old.bytes new.bytes a l in

@@ -1,8 +1,9 @@
 -- The databases of an accepted image by their numbers: which names of chunks are numbers, and what
 -- stands under one.
-use Rattle.palm_store.proofs.Words.{◌≡◌, ◌≢◌, ℕ, ◌*◌, ◌/◌, ◌<◌, List, [], length, get_or, None, sym, ap, ◌∙◌, arith, inl, inr, cases_lt, get_or-map, length-map, length-map-range_with_len, get_or-map-range_with_len, get_or_default_zero, managers_owner, u32_at, HeapAccepted, directory_of, held, times, database_in, HasShape, StoredDatabase, bytes_of, owner_of, bytes_under, owner_under, directory_bytes, listed, database_under, databases, IsHeaderSlot, Accepted, store_of, with_number, held-zero, times-some, times-contained, contained-times, spelled_shape, directory_owner, IsMovable, is_movable, HasNumber, IsListedAt}
+use Rattle.palm_store.proofs.Words.{◌≡◌, ◌≢◌, ℕ, ◌*◌, ◌/◌, ◌<◌, List, [], length, get_or, None, sym, ap, ◌∙◌, arith, inl, inr, cases_lt, get_or-map, length-map, length-map-range_with_len, get_or-map-range_with_len, get_or_default_zero, managers_owner, u32_at, HeapAccepted, directory_of, held, times, database_in, HasShape, StoredDatabase, bytes_of, bytes_under, owner_under, directory_bytes, listed, database_under, databases, IsHeaderSlot, Accepted, store_of, with_number, held-zero, times-some, times-contained, contained-times, spelled_shape, directory_owner, IsMovable, is_movable, HasNumber, IsListedAt}
 -- These laws are those of numbers in an accepted image.
 pub use Rattle.laws_store.proofs.Numbered.{with_number_is, with_number_none, number_listed, listed_number, number_here as has_number_is, in_store, number_slot, number_held, number_spelled}
+use Rattle.palm_store.proofs.Maps.{owner_none}
 
 -- what isn't a number is that of no database
 pub no_number : (image : List ℕ) (db : ℕ) → (HasNumber image db → ⊥) → with_number (store_of image) db ≡ None
@@ -10,8 +11,6 @@ no_number image db none = elim (cases_lt 0 (times db (listed image))) [
   | inl some ↦ absurd (none (listed_number image db some))
   | inr unlisted ↦ with_number_none image db (omega arith)
 ]
-
--- ---- which names are numbers
 
 -- such a chunk's name is a number
 pub slot_number : (image : List ℕ) (db : ℕ) → Accepted image → IsHeaderSlot image db → HasNumber image db
@@ -22,11 +21,9 @@ slot_number image db a slot = elim (a.all_listed db slot.owner) [
 
 -- a name without a chunk has no owner
 pub none_owner : (image : List ℕ) (name : ℕ) → held image name ≡ None → owner_under image name ≢ managers_owner
-unfolding owner_under
-none_owner image name none e = let no = ap owner_of none in omega arith
+none_owner image name none e = (let no = owner_none image name none in omega arith)
 
--- ---- what stands under a number
-
+-- what stands under a number
 pub number_movable : (image : List ℕ) (db : ℕ) → Accepted image → HasNumber image db → IsMovable image db
 number_movable image db a has = is_movable image db (record { heap = a.heap; owner = (number_slot image db a has).owner })
 
@@ -45,9 +42,7 @@ length-databases image = length-map (listed image) (database_under image)
 
 pub slot_at : (image : List ℕ) (index : ℕ) → index < length (listed image) → get_or (listed image) index 0 ≡ u32_at (directory_bytes image) (4 * index)
 unfolding listed
-slot_at image index below =
-    let len = length-listed image in
-    get_or-map-range_with_len (λ i. u32_at (directory_bytes image) (4 * i)) 0 (length (directory_bytes image) / 4) index index 0 (omega arith) (omega arith)
+slot_at image index below = get_or-map-range_with_len (λ i. u32_at (directory_bytes image) (4 * i)) 0 (length (directory_bytes image) / 4) index index 0 (omega (arith, length-listed image)) (omega arith)
 
 pub database_at : (image : List ℕ) (index : ℕ) (d : StoredDatabase) → index < length (listed image) → get_or (databases image) index d ≡ database_under image (get_or (listed image) index 0)
 unfolding databases
@@ -59,10 +54,7 @@ pub record Stands (image : List ℕ) (index : ℕ) (one : StoredDatabase) : Type
   pub is : (d : StoredDatabase) → get_or (databases image) index d ≡ one
 
 pub stands : (image : List ℕ) (db index : ℕ) → IsListedAt image db index → Stands image index (database_under image db)
-stands image db index at =
-    let many = length-databases image in
-    let inside = at.inside in
-    record { inside = omega arith; is = λ d. database_at image index d inside ∙ ap (database_under image) at.there }
+stands image db index at = record { inside = omega (arith, length-databases image); is = λ d. database_at image index d at.inside ∙ ap (database_under image) at.there }
 
 -- what stands at an index is a number
 pub number_at : (image : List ℕ) (index db : ℕ) → index < length (listed image) → db ≡ u32_at (directory_bytes image) (4 * index) → HasNumber image db
@@ -71,28 +63,25 @@ number_at image index db below is = listed_number image db (times-some db (liste
 pub number_of_slot : (image : List ℕ) (index : ℕ) → index < length (listed image) → HasNumber image (get_or (listed image) index 0)
 number_of_slot image index below = number_at image index (get_or (listed image) index 0) below (slot_at image index below)
 
+pub counts : (image bytes : List ℕ) → bytes ≡ directory_bytes image → length (listed image) ≡ length bytes / 4
+counts image bytes same = length-listed image ∙ ap (λ (bs : List ℕ). length bs / 4) (sym same)
+
 -- the same, where these are the directory's bytes
 pub number_in : (image bytes : List ℕ) (index db : ℕ) → bytes ≡ directory_bytes image → index < length bytes / 4 → db ≡ u32_at bytes (4 * index) → HasNumber image db
-number_in image bytes index db same below is =
-    let len = length-listed image in
-    let long = ap length same in
-    number_at image index db (omega arith) (is ∙ ap (λ (bs : List ℕ). u32_at bs (4 * index)) same)
+number_in image bytes index db same below is = number_at image index db (omega (arith, counts image bytes same)) (rw same at is)
 
 pub slot_in : (image bytes : List ℕ) (index db : ℕ) → bytes ≡ directory_bytes image → index < length bytes / 4 → db ≡ u32_at bytes (4 * index) → IsListedAt image db index
-slot_in image bytes index db same below is =
-    let len = length-listed image in
-    let long = ap length same in
-    record { inside = omega arith; there = slot_at image index (omega arith) ∙ sym (is ∙ ap (λ (bs : List ℕ). u32_at bs (4 * index)) same) }
+slot_in image bytes index db same below is = record { inside = omega (arith, counts image bytes same); there = slot_at image index (omega (arith, counts image bytes same)) ∙ sym (rw same at is) }
 
 -- the number that is read there is listed
 pub slot_read : (image bytes : List ℕ) (index : ℕ) → bytes ≡ directory_bytes image → index < length (listed image) → u32_at bytes (4 * index) ≡ get_or (listed image) index 0
-slot_read image bytes index same below = ap (λ (bs : List ℕ). u32_at bs (4 * index)) same ∙ sym (slot_at image index below)
+slot_read image bytes index same below = rw same (sym (slot_at image index below))
 
 -- ---- the directory
 
 pub no_directory : (image : List ℕ) → HeapAccepted image → directory_of image ≡ 0 → directory_bytes image ≡ []
 unfolding directory_bytes bytes_under
-no_directory image heap e = ap (λ (name : ℕ). bytes_of (held image name)) e ∙ ap bytes_of (held-zero image heap)
+no_directory image heap e = rw e (ap bytes_of (held-zero image heap))
 
 pub directory_movable : (image : List ℕ) (name : ℕ) → HeapAccepted image → name ≡ directory_of image → name ≢ 0 → IsMovable image name
 directory_movable image name heap is some = is_movable image name (record { heap = heap; owner = ap (owner_under image) is ∙ directory_owner image heap (omega arith) })
@@ -100,9 +89,6 @@ directory_movable image name heap is some = is_movable image name (record { heap
 pub directory_read : (image bytes : List ℕ) (name : ℕ) → name ≡ directory_of image → bytes ≡ bytes_under image name → bytes ≡ directory_bytes image
 unfolding directory_bytes
 directory_read image bytes name is read = read ∙ ap (bytes_under image) is
-
-pub counts : (image bytes : List ℕ) → bytes ≡ directory_bytes image → length (listed image) ≡ length bytes / 4
-counts image bytes same = length-listed image ∙ ap (λ (bs : List ℕ). length bs / 4) (sym same)
 
 -- a number stands at an index
 pub listed_at : (image : List ℕ) (db : ℕ) → HasNumber image db → (index : ℕ) × IsListedAt image db index

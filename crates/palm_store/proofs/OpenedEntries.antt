@@ -1,5 +1,5 @@
 -- The entries of an accepted image, by their indexes.
-use Rattle.palm_store.proofs.Words.{◌≡◌, ℕ, ◌<◌, Bool, true, List, length, get_or, Option, Some, None, refl, sym, ap, subst, ◌∙◌, slice_get_within, get_or_from_slice_get, IsSome, slice_get, Entry, a_record, a_resource, entry_data, EntryFits, has_resources, StoredDatabase, databases, IsDatabase, Accepted, store_of, with_number, entries_of, entry_under, OfEntry, holds_resources, resources_under, Tells, record_told, resource_told, Db, same_some, none_some, found_stands, entry_owner, are_resources, IsTold, IsOfKind, IsNamed}
+use Rattle.palm_store.proofs.Words.{◌≡◌, ℕ, ◌<◌, Bool, true, List, length, get_or, Option, Some, None, refl, sym, ap, ◌∙◌, slice_get_within, get_or_from_slice_get, IsSome, slice_get, Entry, a_record, a_resource, entry_data, EntryFits, has_resources, StoredDatabase, databases, IsDatabase, Accepted, store_of, with_number, entries_of, entry_under, OfEntry, holds_resources, resources_under, Tells, record_told, resource_told, Db, same_some, none_some, found_stands, entry_owner, are_resources, IsTold, IsOfKind, IsNamed}
 use Rattle.std.specs.Prelude.{is_some}
 use Rattle.heap_model.specs.declared.entry.RecordInfo.{RecordInfo}
 use Rattle.heap_model.specs.declared.entry.ResourceInfo.{ResourceInfo}
@@ -27,18 +27,17 @@ pub here : (image : List ℕ) (db : ℕ) → Accepted image → IsSome (with_num
 unfolding store_of
 here image db a has =
     let there = is_there (with_number (store_of image) db) has in
-    let one : StoredDatabase = there.0 in
-    let stands = found_stands db (databases image) one there.1 in
-    let inside = slice_get_within (databases image) stands.1.0 one stands.1.1 in
-    let at = get_or_from_slice_get (databases image) stands.1.0 one one stands.1.1 in
+    let stands = found_stands db (databases image) there.0 there.1 in
+    let inside = slice_get_within (databases image) stands.1.0 there.0 stands.1.1 in
+    let is = get_or_from_slice_get (databases image) stands.1.0 there.0 there.0 stands.1.1 in
     record {
-      one = one;
+      one = there.0;
       found = there.1;
       number = stands.0;
       index = stands.1.0;
       inside = inside;
-      at = at;
-      whole = subst (λ (s : StoredDatabase). IsDatabase image s) at (a.each stands.1.0 one inside);
+      at = is;
+      whole = rw is at (a.each stands.1.0 there.0 inside);
     }
 
 -- its entry of an index
@@ -46,16 +45,14 @@ pub entry_is : (image : List ℕ) (db : Db) (index : ℕ) (entry : Entry ℕ) (h
 entry_is image db index entry h e = sym (ap (λ (x : Option StoredDatabase). slice_get (entries_of x) index) h.found) ∙ e
 
 pub of_all : (P : Entry ℕ → Type 0) (all : List (Entry ℕ)) (index : ℕ) (entry : Entry ℕ) → ((k : ℕ) (d : Entry ℕ) → k < length all → P (get_or all k d)) → slice_get all index ≡ Some entry → P entry
-of_all P all index entry each e = subst P (get_or_from_slice_get all index entry entry e) (each index entry (slice_get_within all index entry e))
+of_all P all index entry each e = rw (get_or_from_slice_get all index entry entry e) at (each index entry (slice_get_within all index entry e))
 
 -- ---- the entry
 
 pub fits : (image : List ℕ) (db : Db) (resources : Bool) (index : ℕ) (entry : Entry ℕ) → Accepted image → IsSome (with_number (store_of image) db.0) → resources_under (store_of image) db ≡ resources → entry_under (store_of image) db index ≡ Some entry → EntryFits resources entry
 fits image db resources index entry a has kind e =
     let h = here image db.0 a has in
-    let of_kind : has_resources h.one.database.header.attributes ≡ resources = sym (ap holds_resources h.found) ∙ kind in
-    subst (λ (resources : Bool). EntryFits resources entry) of_kind
-    (of_all (λ (x : Entry ℕ). EntryFits (has_resources h.one.database.header.attributes) x) h.one.database.entries index entry h.whole.spelled.fits.entries (entry_is image db index entry h e))
+    rw (sym (ap holds_resources h.found) ∙ kind) at (of_all (λ (x : Entry ℕ). EntryFits (has_resources h.one.database.header.attributes) x) h.one.database.entries index entry h.whole.spelled.fits.entries (entry_is image db index entry h e))
 
 -- callers may name its data
 pub data_named : (image : List ℕ) (db : Db) (index : ℕ) (entry : Entry ℕ) → Accepted image → IsSome (with_number (store_of image) db.0) → entry_under (store_of image) db index ≡ Some entry → 0 < entry_data entry → IsNamed image (entry_data entry)

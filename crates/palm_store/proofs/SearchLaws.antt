@@ -3,8 +3,7 @@ use Rattle.palm_store.proofs.Words.{◌≡◌, ℕ, ◌+◌, ◌<◌, ◌≤◌,
 use Rattle.std.specs.Prelude.{take}
 use Rattle.palm_store.specs.Search.{NoneBehind, SomeHas}
 
--- ---- none that was passed is such
-
+-- none that was passed is such
 abbrev pub NoneUntil : List (Entry ℕ) → ℕ → ℕ → (Entry ℕ → Type 0) → Type 0
 NoneUntil entries from end P = (at : ℕ) → from ≤ at → at < end → OfEntry (slice_get entries at) P → ⊥
 

@@ -6,8 +6,6 @@ pub is_there : {X : Type 0} (x : Option X) → IsSome x → (one : X) × (x ≡ 
 is_there None some = absurd cc
 is_there (Some one) some = (one, refl)
 
--- ---- both changes
-
 -- a change that leaves a store, and another one after it
 pub left_after : (old mid new : List ℕ) (left change store : Store) → LeavesStore old mid left → LeavesStore mid new change → SameStore change store → MakesNone mid new → LeavesStore old new store
 left_after old mid new left change store one two same none = record {
@@ -32,18 +30,6 @@ raised_after old mid new db store one two none = left_after old mid new store (r
       databases = ap (λ (stored : List StoredDatabase). with_changed stored db.0 (λ database. record database { header = raised_header database.header })) one.same.databases;
     }) none
 
--- what is left is the same store
-pub left_as : (old new : List ℕ) (left store : Store) → LeavesStore old new left → SameStore left store → LeavesStore old new store
-left_as old new left store leaves same = record {
-  accepted = leaves.accepted;
-  same = record { map = λ name. leaves.same.map name ∙ same.map name; databases = leaves.same.databases ∙ same.databases };
-  len = leaves.len;
-  tables = leaves.tables;
-  directory = leaves.directory;
-  locks = leaves.locks;
-  still = leaves.still;
-}
-
 -- where nothing changed the store is the same
 pub itself : (image : List ℕ) (store : Store) → Accepted image → SameStore (store_of image) store → LeavesStore image image store
 itself image store a same = record {
@@ -56,8 +42,11 @@ itself image store a same = record {
   still = λ name live was locked there. refl;
 }
 
--- ---- what both move
+-- what is left is the same store
+pub left_as : (old new : List ℕ) (left store : Store) → LeavesStore old new left → SameStore left store → LeavesStore old new store
+left_as old new left store leaves same = left_after old new new left left store leaves (itself new left leaves.accepted leaves.same) same (λ name some. some)
 
+-- what both move
 pub nothing_moved : (old mid new : List ℕ) → MovesNothing old mid → MovesNothing mid new → MakesNone mid new → MovesNothing old new
 nothing_moved old mid new one two none = λ name was is. two name (none name is) is ∙ one name was (none name is)
 
