@@ -1,33 +1,15 @@
 -- Cells, and the bytes in them.
-use Rattle.std.proofs.Common.{◌≡◌, ℕ, suc, ◌+◌, ◌-◌, ◌*◌, ◌/◌, ◌<◌, ◌≤◌, Bool, true, false, cond, List, [], ◌∷◌, ◌++◌, length, refl, sym, ap, subst, ◌∙◌, arith, inl, inr}
-use Rattle.std.specs.Prelude.{◌⊎◌, min, nat_lt, slice_index}
+use Rattle.heap_map.proofs.Words.{◌≡◌, ℕ, suc, ◌+◌, ◌-◌, ◌*◌, ◌/◌, ◌<◌, ◌≤◌, Bool, true, false, cond, List, [], ◌∷◌, ◌++◌, length, refl, sym, ap, subst, ◌∙◌, arith, inl, inr, ◌⊎◌, min, nat_lt, slice_index, cases_lt, nat_tests, Chunk, free, movable, fixed, size_of, total, free_size, area_start, IsSlot, BodyHere, HeapAccepted, chunks_of, SpelledAll-end, read_heap, Header, header_of, size_by, HasHeader, IsRoomFor, HasPassed, passed_step, passed_more, slot_word, numbered, Accepted, length-numbered, area_size, cell_size, cell_count, mark_at, in_cell, mark_here, first_mark, free_here, free_within, free_taken, drawn_by, IsClear, HoldChunks, AddsChunk}
 use Rattle.std.proofs.Math.Nat.{mul-le-mul_left, mul-le-mul_right}
-use Rattle.std.proofs.lemmas.Bool.{cases_lt}
-use Rattle.std.proofs.lemmas.Bool.Decides.{nat_tests}
-use Rattle.heap_model.specs.Chunk.{Chunk, free, movable, fixed, size_of, total, free_size}
-use Rattle.heap_model.specs.Slots.{area_start, IsSlot}
 use Rattle.heap_model.specs.Placed.{AnyPlaced}
-use Rattle.heap_model.specs.Heap.{BodyHere, HeapAccepted}
-use Rattle.heap_model.specs.Reading.{chunks_of}
-use Rattle.laws_heap.proofs.Chunks.{SpelledAll-end}
 use Rattle.laws_heap.proofs.Placed.{AnyPlaced-mid}
 use Rattle.laws_heap.proofs.Meanings.{slot_place}
-use Rattle.laws_heap.proofs.FoundChunks.{read_heap}
-use Rattle.chunk_format.specs.declared.header.Header.{Header}
-use Rattle.chunk_format.specs.Header.{header_of, size_by, HasHeader}
 use Rattle.chunk_format.proofs.HeaderLaws.{size_by-header_of}
-use Rattle.heap_check.specs.Owners.{IsRoomFor}
-use Rattle.heap_check.proofs.WalkLaws.{HasPassed, passed_step, passed_more}
 use Rattle.store_check.specs.Naming.{AreEnoughMarks}
-use Rattle.store_check.proofs.SlotWords.{slot_word}
 use Rattle.heap_map.specs.declared.cells.Cells.{Cells}
 use Rattle.heap_map.specs.Marks.{free_mark, mark_of, mark_by, cell_byte}
-use Rattle.heap_model.specs.Lists.{numbered}
-use Rattle.heap_model.specs.Store.{Accepted}
 use Rattle.laws_store.proofs.Numbers.{numbered_more}
-use Rattle.store_check.proofs.IndexLaws.{length-numbered}
 use Rattle.heap_map.specs.Cells.{marks as image_marks}
-use Rattle.heap_map.specs.Cells.{area_size, cell_size, cell_count, mark_at, in_cell, mark_here, first_mark, free_here, free_within, free_taken, drawn_by, IsClear, HoldChunks, AddsChunk}
 
 -- ---- the cells that have some bytes
 

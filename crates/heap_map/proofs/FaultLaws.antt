@@ -1,13 +1,10 @@
 -- The fault of a picture by that of the check.
-use Rattle.std.proofs.Common.{◌≡◌, List, ℕ, refl, sym, ap, subst, ◌∙◌, inl, inr}
-use Rattle.std.specs.Prelude.{◌⊎◌}
-use Rattle.heap_model.specs.Store.{Accepted}
+use Rattle.heap_map.proofs.Words.{◌≡◌, List, ℕ, refl, sym, ap, subst, ◌∙◌, inl, inr, ◌⊎◌, Accepted, map_fault, IsMapFault}
 use Rattle.store_check.specs.declared.fault.StoreFault.{StoreFault}
 use Rattle.store_check.specs.declared.fault.StoreFault.TheVariants as checks
 use Rattle.store_check.specs.Checks.{IsAnswered, IsRefusal}
 use Rattle.store_check.specs.Faults.{IsFirstStoreFault}
 use Rattle.heap_map.specs.declared.picture.MapFault.TheVariants.{BadImage, OutOfMemory, Write}
-use Rattle.heap_map.specs.Pictures.{map_fault, IsMapFault}
 
 -- an allocation failed, or the image is refused
 cases : (fault : StoreFault) → (fault ≡ checks.OutOfMemory) ⊎ ((fault ≡ checks.OutOfMemory → ⊥) × (BadImage fault ≡ map_fault fault))

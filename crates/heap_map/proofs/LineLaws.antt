@@ -1,11 +1,7 @@
 -- Lines that a function of the index gives, one after the other.
-use Rattle.std.proofs.Common.{◌≡◌, ℕ, zero, suc, ◌+◌, ◌-◌, ◌<◌, ◌≤◌, List, [], ◌∷◌, ◌++◌, length, get_or, take, drop, replicate, refl, ap, ◌∙◌, arith, add-one, drop-cons}
+use Rattle.heap_map.proofs.Words.{◌≡◌, ℕ, zero, suc, ◌+◌, ◌-◌, ◌<◌, ◌≤◌, List, [], ◌∷◌, ◌++◌, length, get_or, take, drop, replicate, refl, ap, ◌∙◌, arith, add-one, drop-cons, codes, decimal, drop_all, numbered, padded}
 use Rattle.std.specs.List.{concat}
-use Rattle.std.specs.Prelude.{codes, decimal}
-use Rattle.std.proofs.lemmas.List.{drop_all}
 use Rattle.std.proofs.lemmas.List.FromFn.{length-map-range_with_len, get_or-map-range_with_len}
-use Rattle.heap_model.specs.Lists.{numbered}
-use Rattle.heap_map.specs.Text.{padded}
 
 -- the lines from an index on
 abbrev pub rest_lines : (ℕ → List ℕ) → ℕ → ℕ → List ℕ

@@ -1,16 +1,6 @@
 -- The numbers of databases in a table.
-use Rattle.std.proofs.Common.{◌≡◌, ◌≢◌, ℕ, suc, ◌+◌, ◌<◌, ◌≤◌, Bool, true, false, cond, List, [], ◌∷◌, ◌++◌, length, get_or, set, refl, sym, ap, ◌∙◌, arith, inl, inr}
-use Rattle.std.specs.Prelude.{◌||◌, slice_index}
-use Rattle.std.proofs.lemmas.Bool.{cases_eq}
-use Rattle.std.proofs.lemmas.Bool.Decides.{nat_tests}
-use Rattle.std.proofs.lemmas.List.{get_or-set_same, get_or-set_other}
+use Rattle.heap_map.proofs.Words.{◌≡◌, ◌≢◌, ℕ, suc, ◌+◌, ◌<◌, ◌≤◌, Bool, true, false, cond, List, [], ◌∷◌, ◌++◌, length, get_or, set, refl, sym, ap, ◌∙◌, arith, inl, inr, ◌||◌, slice_index, cases_eq, nat_tests, get_or-set_same, get_or-set_other, data_in, database_in, Accepted, listed, marked_word, header_at, listed_at, listed_count, length-numbered, has_slot, last_naming_below, database_number, HasNumbers, NotesSlots}
 use Rattle.std.proofs.lemmas.List.Folds.{list_any-append}
-use Rattle.heap_model.specs.Database.{data_in, database_in}
-use Rattle.heap_model.specs.Store.{Accepted, listed}
-use Rattle.heap_check.specs.Owners.{marked_word}
-use Rattle.store_check.specs.Listing.{header_at, listed_at, listed_count}
-use Rattle.store_check.proofs.IndexLaws.{length-numbered}
-use Rattle.heap_map.specs.Numbers.{has_slot, last_naming_below, database_number, HasNumbers, NotesSlots}
 
 -- ---- one slot
 

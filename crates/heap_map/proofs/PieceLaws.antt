@@ -1,22 +1,10 @@
 -- The free pieces of a layout, as one walk meets them.
-use Rattle.std.proofs.Common.{◌≡◌, ℕ, ◌+◌, ◌≤◌, ◌*◌, List, [], ◌∷◌, ◌++◌, length, Option, Some, None, refl, sym, ap, subst, ◌∙◌, append_assoc, arith}
-use Rattle.std.specs.Prelude.{max}
-use Rattle.std.proofs.lemmas.List.{append-nil}
-use Rattle.heap_model.specs.Chunk.{Chunk, free, movable, fixed, size_of, total}
+use Rattle.heap_map.proofs.Words.{◌≡◌, ℕ, ◌+◌, ◌≤◌, ◌*◌, List, [], ◌∷◌, ◌++◌, length, Option, Some, None, refl, sym, ap, subst, ◌∙◌, append_assoc, arith, max, append-nil, Chunk, free, movable, fixed, size_of, total, area_start, HeapAccepted, chunks_of, total-append, SpelledAll-end, read_heap, Header, header_of, size_by, HasHeader, HasPassed, passed_none, passed_more, free_sizes, free_pieces}
 use Rattle.heap_model.specs.Layout.{free_onto, merged}
 use Rattle.heap_model.specs.Space.{greatest}
-use Rattle.heap_model.specs.Slots.{area_start}
-use Rattle.heap_model.specs.Heap.{HeapAccepted}
-use Rattle.heap_model.specs.Reading.{chunks_of}
 use Rattle.laws_heap.proofs.Layouts.{total-merged}
-use Rattle.laws_heap.proofs.Chunks.{total-append, SpelledAll-end}
-use Rattle.laws_heap.proofs.FoundChunks.{read_heap}
-use Rattle.chunk_format.specs.declared.header.Header.{Header}
 use Rattle.chunk_format.specs.declared.header.Header.TheVariants as headers
-use Rattle.chunk_format.specs.Header.{header_of, size_by, HasHeader}
-use Rattle.heap_check.proofs.WalkLaws.{HasPassed, passed_none, passed_more}
 use Rattle.heap_map.specs.declared.pieces.Pieces.{Pieces}
-use Rattle.heap_map.specs.Text.{free_sizes, free_pieces}
 use Rattle.heap_map.specs.Pieces.{free_by, run_size, pieces_after, with_run}
 
 -- the chunk is live

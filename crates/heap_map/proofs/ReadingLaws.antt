@@ -1,17 +1,7 @@
 -- The headers of the databases of an accepted image.
-use Rattle.std.proofs.Common.{◌≡◌, ℕ, ◌+◌, ◌-◌, ◌<◌, ◌≤◌, List, length, get_or, sym, ap, subst, ◌∙◌, arith}
-use Rattle.std.proofs.lemmas.List.{get_or-map, length-map}
-use Rattle.std.specs.Prelude.{slice_range, map}
-use Rattle.heap_model.specs.Chunk.{movable, managers_owner, IsLive}
-use Rattle.heap_model.specs.Heap.{HeapAccepted}
-use Rattle.heap_model.specs.Lists.{numbered}
-use Rattle.heap_model.specs.Store.{StoredDatabase, Accepted, IsHeaderSlot, IsDatabase, bytes_of, bytes_under, owner_under, listed, databases, database_under}
-use Rattle.laws_heap.proofs.FoundChunks.{InSlot, finds_held, finds_spelled, finds_body}
+use Rattle.heap_map.proofs.Words.{◌≡◌, ℕ, ◌+◌, ◌-◌, ◌<◌, ◌≤◌, List, length, get_or, sym, ap, subst, ◌∙◌, arith, get_or-map, length-map, slice_range, movable, managers_owner, IsLive, HeapAccepted, numbered, StoredDatabase, Accepted, IsHeaderSlot, IsDatabase, bytes_of, bytes_under, owner_under, listed, databases, database_under, InSlot, finds_held, finds_spelled, finds_body, HasLive, AreWholeBytes, listed_at, listed_count, header_at, length-numbered, numbered_at, numbered_all}
+use Rattle.std.specs.Prelude.{map}
 use Rattle.laws_store.proofs.Shapes.{spelled_shape}
-use Rattle.chunk_format.specs.Header.{HasLive}
-use Rattle.db_format.specs.Headers.{AreWholeBytes}
-use Rattle.store_check.specs.Listing.{listed_at, listed_count, header_at}
-use Rattle.store_check.proofs.IndexLaws.{length-numbered, numbered_at, numbered_all}
 
 -- the chunk in a slot
 pub live_is : (image : List ℕ) (slot place : ℕ) → HeapAccepted image → (s : InSlot image slot place) → (h_offset : ℕ) × IsLive image (place - 8) s.live.bytes s.live.lock s.live.owner h_offset

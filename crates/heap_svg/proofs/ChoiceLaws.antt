@@ -1,8 +1,5 @@
 -- Texts of which a test chooses one.
-use Rattle.std.proofs.Common.{◌≡◌, ℕ, cond, List, Bool, true, false, Option, sym, subst, ◌∙◌, arith}
-use Rattle.std.specs.Prelude.{nat_eq}
-use Rattle.std.proofs.lemmas.Bool.Decides.{nat_tests}
-use Rattle.palm_text.specs.Counted.{Writing, Writes}
+use Rattle.heap_svg.proofs.Words.{◌≡◌, ℕ, cond, List, Bool, true, false, Option, sym, subst, ◌∙◌, arith, nat_eq, nat_tests, Writing, Writes}
 
 -- the test is a function's result
 pub when_yes : {W : Type 0} (contents : W → Option (List ℕ)) (old new : Writing W) (test result : Bool) (a b : List ℕ) (ok : Bool) → result ≡ test → result ≡ true → Writes contents old new a ok → Writes contents old new (cond test a b) ok

@@ -1,12 +1,7 @@
 -- What is drawn of an image.
-use Rattle.std.proofs.Common.{◌≡◌, ◌<◌, ◌≤◌, ◌-◌, ◌+◌, ◌*◌, ℕ, Bool, List, Option, length, ap, subst, sym, arith}
-use Rattle.palm_text.specs.Counted.{Writing, Writes}
+use Rattle.heap_svg.proofs.Words.{◌≡◌, ◌<◌, ◌≤◌, ◌-◌, ◌+◌, ◌*◌, ℕ, Bool, List, Option, length, ap, subst, sym, arith, Writing, Writes, Strip, WritesDrawing, drawing_text, rows_in, ShowImage}
 use Rattle.heap_svg.specs.declared.drawing.Drawing.{Drawing}
-use Rattle.heap_svg.specs.declared.strips.Strip.{Strip}
-use Rattle.heap_svg.specs.Drawing.{WritesDrawing, drawing_text}
 use Rattle.heap_svg.specs.Drawings.{HasDrawing}
-use Rattle.heap_svg.specs.Rows.{rows_in}
-use Rattle.heap_svg.specs.Strips.{ShowImage}
 use Rattle.heap_svg.proofs.RowLaws.{row_low, row_small, rows_low, few_rows}
 
 -- the sizes of the rows

@@ -1,19 +1,6 @@
 -- The sizes of the free pieces of a layout, as a walk meets them.
-use Rattle.std.proofs.Common.{◌≡◌, ℕ, ◌+◌, ◌≤◌, List, [], ◌∷◌, ◌++◌, Option, Some, None, refl, sym, ap, subst, ◌∙◌, append_assoc, arith}
-use Rattle.std.proofs.lemmas.List.{append-nil}
-use Rattle.heap_model.specs.Chunk.{Chunk, free, movable, fixed, size_of, total}
-use Rattle.heap_model.specs.Layout.{merged}
-use Rattle.heap_model.specs.Reading.{chunks_of}
-use Rattle.heap_model.specs.Slots.{area_start}
-use Rattle.heap_model.specs.Heap.{HeapAccepted}
-use Rattle.laws_heap.proofs.Chunks.{total-append, SpelledAll-end}
-use Rattle.laws_heap.proofs.FoundChunks.{read_heap}
-use Rattle.chunk_format.specs.declared.header.Header.{Header}
-use Rattle.chunk_format.specs.Header.{header_of, size_by, HasHeader}
-use Rattle.heap_check.proofs.WalkLaws.{HasPassed, passed_none, passed_more}
-use Rattle.heap_map.specs.Text.{free_sizes, free_pieces}
+use Rattle.heap_svg.proofs.Words.{◌≡◌, ℕ, ◌+◌, ◌≤◌, List, [], ◌∷◌, ◌++◌, Option, Some, None, refl, sym, ap, subst, ◌∙◌, append_assoc, arith, append-nil, Chunk, free, movable, fixed, size_of, total, merged, chunks_of, area_start, HeapAccepted, total-append, SpelledAll-end, read_heap, Header, header_of, size_by, HasHeader, HasPassed, passed_none, passed_more, free_sizes, free_pieces, IsLiveChunk, sizes_behind, behind_free, live_sizes, onto_live}
 use Rattle.heap_map.specs.Pieces.{run_size}
-use Rattle.heap_map.proofs.PieceLaws.{IsLiveChunk, sizes_behind, behind_free, live_sizes, onto_live}
 use Rattle.heap_svg.specs.declared.pieces.PieceSizes.{PieceSizes}
 use Rattle.heap_svg.specs.Pieces.{run_list, EndsPiece, LengthensPiece, AddsHeader}
 

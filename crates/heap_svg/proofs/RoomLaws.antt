@@ -1,25 +1,8 @@
 -- Rooms, as a walk meets them.
-use Rattle.std.proofs.Common.{◌≡◌, ℕ, zero, suc, ◌+◌, ◌≤◌, ◌<◌, List, [], ◌∷◌, ◌++◌, length, get_or, drop, refl, sym, ap, subst, ◌∙◌, append_assoc, arith, inl, inr, add-one, drop-cons}
-use Rattle.std.specs.Prelude.{max, true, false}
-use Rattle.std.proofs.lemmas.Bool.Decides.{nat_tests}
-use Rattle.std.proofs.lemmas.List.{append-nil}
-use Rattle.heap_model.specs.Chunk.{Chunk, free, movable, fixed, size_of, total, need}
-use Rattle.heap_model.specs.Layout.{gap}
+use Rattle.heap_svg.proofs.Words.{◌≡◌, ℕ, zero, suc, ◌+◌, ◌≤◌, ◌<◌, List, [], ◌∷◌, ◌++◌, length, get_or, drop, refl, sym, ap, subst, ◌∙◌, append_assoc, arith, inl, inr, add-one, drop-cons, max, nat_tests, append-nil, Chunk, free, movable, fixed, size_of, total, need, gap, chunks_of, greatest, area_start, HeapAccepted, total-append, SpelledAll-end, read_heap, Header, header_of, size_by, HasHeader, size_by-header_of, HasPassed, passed_none, passed_more, Room, free_sizes, compact_pieces, kept, rooms_from, rooms_drawn, sizes, AddsToRooms}
+use Rattle.std.specs.Prelude.{true, false}
 use Rattle.heap_model.specs.Packing.{packed, packed_behind}
-use Rattle.heap_model.specs.Reading.{chunks_of}
-use Rattle.heap_model.specs.Space.{greatest}
-use Rattle.heap_model.specs.Slots.{area_start}
-use Rattle.heap_model.specs.Heap.{HeapAccepted}
-use Rattle.laws_heap.proofs.Chunks.{total-append, SpelledAll-end}
-use Rattle.laws_heap.proofs.FoundChunks.{read_heap}
-use Rattle.chunk_format.specs.declared.header.Header.{Header}
-use Rattle.chunk_format.specs.Header.{header_of, size_by, HasHeader}
-use Rattle.chunk_format.proofs.HeaderLaws.{size_by-header_of}
-use Rattle.heap_check.proofs.WalkLaws.{HasPassed, passed_none, passed_more}
-use Rattle.heap_svg.specs.declared.rooms.Room.{Room}
 use Rattle.heap_svg.specs.declared.rooms.MetRooms.{MetRooms}
-use Rattle.heap_map.specs.Text.{free_sizes}
-use Rattle.heap_svg.specs.Rooms.{compact_pieces, kept, rooms_from, rooms_drawn, sizes, AddsToRooms}
 
 -- ---- rooms are the pieces that a compact leaves
 

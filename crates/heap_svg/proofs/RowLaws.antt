@@ -1,15 +1,5 @@
 -- The rows of a drawing.
-use Rattle.std.proofs.Common.{◌≡◌, ℕ, zero, suc, ◌+◌, ◌-◌, ◌*◌, ◌/◌, ◌<◌, ◌≤◌, List, ◌∷◌, ◌++◌, length, get_or, drop, refl, arith, inl, inr, add-one, drop-cons}
-use Rattle.std.proofs.lemmas.Bool.{cases_lt}
-use Rattle.std.proofs.lemmas.Bool.Decides.{nat_tests}
-use Rattle.std.proofs.lemmas.List.Elements.{All-weaker}
-use Rattle.std.specs.Prelude.{All}
-use Rattle.heap_svg.specs.declared.strips.Strip.{Strip}
-use Rattle.heap_svg.specs.Strips.{ShowImage}
-use Rattle.std.specs.List.{flat_map}
-use Rattle.std.proofs.Math.Nat.{mul-le-mul_left, mul-le-mul_right, mul-div-le}
-use Rattle.heap_svg.specs.declared.rooms.Room.{Room}
-use Rattle.heap_svg.specs.Rows.{doubled, IsRowSize, rows_in, sizes_in}
+use Rattle.heap_svg.proofs.Words.{◌≡◌, ℕ, zero, suc, ◌+◌, ◌-◌, ◌*◌, ◌/◌, ◌<◌, ◌≤◌, List, ◌∷◌, ◌++◌, length, get_or, drop, refl, arith, inl, inr, add-one, drop-cons, cases_lt, nat_tests, All-weaker, All, Strip, ShowImage, flat_map, mul-le-mul_left, mul-le-mul_right, mul-div-le, Room, doubled, IsRowSize, rows_in, sizes_in}
 
 doubled_low : (times : ℕ) → 64 ≤ doubled times
 doubled_low zero = omega arith

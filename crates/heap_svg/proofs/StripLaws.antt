@@ -1,25 +1,8 @@
 -- Strips, as a walk meets them.
-use Rattle.std.proofs.Common.{◌≡◌, ℕ, ◌+◌, ◌<◌, ◌≤◌, cond, List, [], ◌∷◌, ◌++◌, length, refl, sym, ap, subst, ◌∙◌, append_assoc, arith, inl, inr}
-use Rattle.std.specs.Prelude.{◌⊎◌, nat_lt, Bool, true, false, All, Result, Ok, Err, IfOk}
-use Rattle.std.proofs.lemmas.Bool.{cases_lt}
-use Rattle.std.proofs.lemmas.Bool.Decides.{nat_tests}
-use Rattle.std.proofs.lemmas.List.{append-nil}
-use Rattle.std.proofs.lemmas.List.Elements.{All-nil, All-push}
-use Rattle.heap_model.specs.Chunk.{Chunk, size_of, total}
-use Rattle.heap_model.specs.Slots.{area_start}
-use Rattle.heap_model.specs.Reading.{chunks_of}
-use Rattle.heap_model.specs.Heap.{HeapAccepted}
-use Rattle.laws_heap.proofs.Chunks.{total-append, SpelledAll-end}
-use Rattle.laws_heap.proofs.FoundChunks.{read_heap}
-use Rattle.chunk_format.specs.declared.header.Header.{Header}
-use Rattle.chunk_format.specs.Header.{size_by, HasHeader}
-use Rattle.chunk_format.proofs.HeaderLaws.{size_by-header_of}
-use Rattle.heap_check.proofs.WalkLaws.{HasPassed, passed_size, passed_step, passed_all}
-use Rattle.heap_map.proofs.CellLaws.{mark_by-is}
-use Rattle.heap_svg.specs.declared.strips.Strip.{Strip}
+use Rattle.heap_svg.proofs.Words.{◌≡◌, ℕ, ◌+◌, ◌<◌, ◌≤◌, cond, List, [], ◌∷◌, ◌++◌, length, refl, sym, ap, subst, ◌∙◌, append_assoc, arith, inl, inr, ◌⊎◌, nat_lt, All, IfOk, cases_lt, nat_tests, append-nil, All-nil, All-push, Chunk, size_of, total, area_start, chunks_of, HeapAccepted, total-append, SpelledAll-end, read_heap, Header, size_by, HasHeader, size_by-header_of, HasPassed, passed_size, passed_step, passed_all, mark_by-is, Strip, head_mark, head_strip, joins, longer, next_strip, strips_from, strips_of, byte_mark, mark_of_byte, HasByte, HasOneMark, AnyHas, ShowImage, end_of, all_strips, JoinsLast, BeginsStrip, AddsBytes}
+use Rattle.std.specs.Prelude.{Bool, true, false, Result, Ok, Err}
 use Rattle.heap_svg.specs.declared.strips.Strips.{Strips}
 use Rattle.heap_map.specs.Marks.{mark_of, mark_by}
-use Rattle.heap_svg.specs.Strips.{head_mark, head_strip, joins, longer, next_strip, strips_from, strips_of, byte_mark, mark_of_byte, HasByte, HasOneMark, AnyHas, ShowImage, end_of, all_strips, JoinsLast, BeginsStrip, AddsBytes}
 
 -- ---- the marks of bytes
 

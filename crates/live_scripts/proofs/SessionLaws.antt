@@ -1,30 +1,21 @@
 -- Laws on lines that are run one after another.
-use Rattle.std.proofs.Common.{◌≡◌, ◌<◌, ◌≤◌, ◌+◌, ◌-◌, ℕ, List, [], ◌∷◌, ◌++◌, length, length-append, length-drop, replicate, take, drop, Option, Some, None, refl, sym, ap, subst, ◌∙◌, inl, inr, append_assoc, append-nil, arith, true, false}
+use Rattle.live_scripts.proofs.Words.{◌≡◌, ◌<◌, ◌≤◌, ◌+◌, ◌-◌, ℕ, List, [], ◌∷◌, ◌++◌, length, length-append, length-drop, replicate, take, drop, Option, Some, None, refl, sym, ap, subst, ◌∙◌, inl, inr, append_assoc, append-nil, arith, true, false, drop-drop, take-append-drop, take-take, take_all, take_at, length-replicate, StartsWith, IsAtEnd, Keeps, prepend_known, option_to_list, Appends-kept, Appends-nil, Appends-trans, output, IsUnended, Bindings, DoesLine, LineStep, Setting, bound_after, exported, labelled, reply_line, unbound, EndsOn, HasRun, IsReadFault, LineStops, ReadsLine, RunsLine, RunsOn, StopsAt, StopsOn, bound_in, live_state}
 use Rattle.std.proofs.Math.Seq.{take-add}
-use Rattle.std.proofs.lemmas.List.{drop-drop, take-append-drop, take-take, take_all, take_at, length-replicate}
-use Rattle.std.specs.Io.{StartsWith}
 use Rattle.std.specs.Prelude.{Result, Ok, Err, IfErr, IsErrAnd}
-use Rattle.std.specs.Io.KnownBytes.{IsAtEnd, Keeps, prepend_known}
-use Rattle.std.specs.Option.{option_to_list}
 use Rattle.std.specs.Str.Lines.{lines}
-use Rattle.std.proofs.KnownBytes.{Appends-kept, Appends-nil, Appends-trans}
 use Rattle.std.proofs.Transfers.{starts_with_length}
 use Rattle.heap_model.specs.Memory.{Memory}
 use Rattle.palm_text.specs.Counted.{Flushes, Writing}
-use Rattle.palm_text.specs.Output.{output}
-use Rattle.script_lines.specs.Cuts.{IsUnended}
 use Rattle.script_lines.specs.Numbering.{Numberings, none_numbered}
 use Rattle.script_lines.specs.Reading.{line_read, read_line, read_lines, read_script}
 use Rattle.script_lines.specs.Views.{numberings}
 use Rattle.script_lines.specs.declared.fault.LineFault.{LineFault}
 use Rattle.script_lines.specs.declared.line.Line.{Line}
-use Rattle.script_calls.specs.Lines.{Bindings, DoesLine, LineStep, Setting, bound_after, exported, labelled, reply_line, unbound}
 use Rattle.palm_script.proofs.LineLaws.{one_more}
 use Rattle.live_scripts.specs.declared.fault.LiveFault.{LiveFault}
 use Rattle.live_scripts.specs.declared.fault.LiveFault.TheVariants as faults
 use Rattle.live_scripts.specs.declared.session.Session.{Session}
 use Rattle.live_scripts.specs.Live.{CutBetweenLines, Prints, ReadStops, RunStops, RunsText, StopsBy, point}
-use Rattle.live_scripts.specs.Sessions.{EndsOn, HasRun, IsReadFault, LineStops, ReadsLine, RunsLine, RunsOn, StopsAt, StopsOn, bound_in, live_state}
 use Rattle.program_io.specs.Status.{IsOfReading}
 use Rattle.program_io.specs.declared.input.InputFault.{InputFault}
 use Rattle.program_io.specs.declared.input.InputFault.TheVariants.{Memory as InputMemory}

@@ -1,6 +1,5 @@
 -- Laws on tables that grow.
-use Rattle.std.proofs.Common.{◌≡◌, ℕ, zero, suc, List, [], ◌∷◌, ◌++◌, get_or, refl}
-use Rattle.script_calls.specs.Lines.{table}
+use Rattle.live_scripts.proofs.Words.{◌≡◌, ℕ, zero, suc, List, [], ◌∷◌, ◌++◌, get_or, refl, table}
 
 found_grown : {Bound : Type 0} (items : List Bound) (unbound : Bound) (label : ℕ) → get_or (items ++ unbound ∷ []) label unbound ≡ get_or items label unbound
 found_grown [] unbound zero = refl

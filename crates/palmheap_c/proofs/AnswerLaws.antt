@@ -1,17 +1,7 @@
 -- Results for images and scripts with faults.
-use Rattle.std.proofs.Common.{◌≡◌, ◌≢◌, ◌⊎◌, ℕ, List, Err, ap, ◌∙◌, inl, inr}
-use Rattle.allowance.specs.Refusals.{GrowthRefused}
-use Rattle.heap_model.specs.Store.{Accepted}
+use Rattle.palmheap_c.proofs.Words.{◌≡◌, ◌≢◌, ◌⊎◌, ℕ, List, Err, ap, ◌∙◌, inl, inr, GrowthRefused, Accepted, StoreFault, read_script, LineFault, ScriptFault, UnknownCommand, WrongCount, BadWord, OutOfMemory, Answer, IsImageFault, IsMemoryAnswer, of_store, IsRunRefusal, capped, of_line, of_script}
 use Rattle.store_check.specs.Checks.{IsAnswered}
-use Rattle.store_check.specs.declared.fault.StoreFault.{StoreFault}
 use Rattle.store_check.specs.declared.fault.StoreFault.TheVariants as store_faults
-use Rattle.script_lines.specs.Reading.{read_script}
-use Rattle.script_lines.specs.declared.fault.LineFault.{LineFault}
-use Rattle.script_lines.specs.declared.fault.ScriptFault.{ScriptFault}
-use Rattle.script_lines.specs.declared.fault.ScriptFault.TheVariants.{UnknownCommand, WrongCount, BadWord, OutOfMemory}
-use Rattle.palmheap_c.specs.declared.answers.Answer.{Answer}
-use Rattle.palmheap_c.specs.Answers.{IsImageFault, IsMemoryAnswer, of_store}
-use Rattle.palmheap_c.specs.Runs.{IsRunRefusal, capped, of_line, of_script}
 
 pub image_refused : (image : List ℕ) (fault : StoreFault) (found : Answer) → (fault ≡ store_faults.OutOfMemory → GrowthRefused) → found ≡ of_store fault → IsAnswered image fault → IsMemoryAnswer found ⊎ IsImageFault image found
 image_refused image fault found short e (inl none) = inl (e ∙ ap of_store none.0, short none.0)

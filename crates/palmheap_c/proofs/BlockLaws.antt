@@ -1,13 +1,7 @@
 -- The places of the blocks of a file, for C.
-use Rattle.std.proofs.Common.{◌≡◌, ℕ, List, [], ◌∷◌, length, take, drop, Option, Some, None, refl, sym, ap, ◌∙◌, subst, arith}
-use Rattle.std.specs.Prelude.{All, map, slice_index_or, slice_range}
-use Rattle.std.proofs.lemmas.List.{length-map}
-use Rattle.std.proofs.lemmas.List.Elements.{All-map}
-use Rattle.heap_model.specs.Files.{HasNoFault, blocks_in}
-use Rattle.pdb_format.specs.Blocks.{IsBlockWithin, bytes_at, places_in}
+use Rattle.palmheap_c.proofs.Words.{◌≡◌, ℕ, List, [], ◌∷◌, length, take, drop, refl, sym, ap, ◌∙◌, subst, arith, All, map, slice_index_or, slice_range, length-map, All-map, HasNoFault, blocks_in, IsBlockWithin, bytes_at, places_in, AreBlocks, IsInside, found, placed, Block}
+use Rattle.std.proofs.Common.{Option, Some, None}
 use Rattle.pdb_format.specs.declared.blocks.Block as files
-use Rattle.palmheap_c.specs.Blocks.{AreBlocks, IsInside, found, placed}
-use Rattle.palmheap_c.specs.declared.blocks.Block.{Block}
 
 -- the bytes at the places are those of the blocks
 found_placed : (file : List ℕ) (blocks : List (Option files.Block)) → map (found file) (map placed blocks) ≡ map (bytes_at file) blocks

@@ -1,23 +1,12 @@
 -- Blank images with a chain of tables.
-use Rattle.std.proofs.Common.{false, ◌≡◌, ◌≢◌, ◌⊎◌, ℕ, inl, inr, ◌+◌, ◌-◌, ◌%◌, ◌≤◌, List, length, refl, sym, subst, ap, ◌∙◌, arith}
-use Rattle.std.proofs.lemmas.Bool.{cases_eq, cases_lt, eq-eqb}
-use Rattle.std.proofs.lemmas.Bool.Decides.{nat_tests}
-use Rattle.std.specs.Prelude.{◌==◌, IfOk, Option, Some, None, Result, Ok, Err}
-use Rattle.allowance.specs.Refusals.{GrowthRefused}
-use Rattle.chunk_format.specs.Blank.{IsBlank, IsRegionSize, LeavesRoom}
+use Rattle.palmheap_c.proofs.Words.{false, ◌≡◌, ◌≢◌, ◌⊎◌, ℕ, inl, inr, ◌+◌, ◌-◌, ◌%◌, ◌≤◌, List, length, refl, sym, subst, ap, ◌∙◌, arith, cases_eq, cases_lt, eq-eqb, nat_tests, ◌==◌, IfOk, Option, Some, None, Result, Ok, GrowthRefused, IsBlank, IsRegionSize, LeavesRoom, LiveChunk, Memory, held, IsSlot, area_start, start_behind, Accepted, memory_answer, Answer}
+use Rattle.std.specs.Prelude.{Err}
 use Rattle.heap_migration.specs.Growth.{growth, growth_of}
 use Rattle.heap_model.specs.Frame.{least_size, most_size}
-use Rattle.heap_model.specs.Meaning.{LiveChunk}
-use Rattle.heap_model.specs.Memory.{Memory}
 use Rattle.heap_model.specs.Migration.{Migrates, MigratesBytes}
-use Rattle.heap_model.specs.Reading.{held}
-use Rattle.heap_model.specs.Slots.{IsSlot, area_start, start_behind}
-use Rattle.heap_model.specs.Store.{Accepted}
 use Rattle.laws_heap.proofs.Migrations.{migrated}
 use Rattle.laws_heap.proofs.Tests.{cond-false, cond-true}
-use Rattle.palmheap_c.specs.Answers.{memory_answer}
 use Rattle.palmheap_c.specs.ChainedImages.{HasChainSize, IsBlankChain, IsNoChain, LeavesChainRoom}
-use Rattle.palmheap_c.specs.declared.answers.Answer.{Answer}
 
 -- a chunk that no name has
 no_chunk : (image : List ℕ) (name : ℕ) → ((live : LiveChunk) → held image name ≡ Some live → ⊥) → held image name ≡ None

@@ -1,7 +1,6 @@
 -- Files that stand one after the other, and where they end.
-use Rattle.std.proofs.Common.{◌≡◌, ◌+◌, ◌<◌, ℕ, List, [], ◌∷◌, ◌++◌, length, take, get_or, sym, ap, ◌∙◌, length-append, append-nil, add-one, take-suc, arith}
+use Rattle.palmheap_c.proofs.Words.{◌≡◌, ◌+◌, ◌<◌, ℕ, List, [], ◌∷◌, ◌++◌, length, take, get_or, sym, ap, ◌∙◌, length-append, append-nil, add-one, take-suc, arith, ends_from, joined}
 use Rattle.std.proofs.lemmas.Grind.{flat_map-append}
-use Rattle.palmheap_c.specs.Runs.{ends_from, joined}
 
 -- one more file ends where all of them end
 ends_more : (start : ℕ) (files : List (List ℕ)) (file : List ℕ) → ends_from start (files ++ (file ∷ [])) ≡ ends_from start files ++ ((start + length (joined files) + length file) ∷ [])

@@ -1,25 +1,12 @@
 -- The header and the entries that are read from a file.
-use Rattle.std.proofs.Common.{◌≡◌, ◌<◌, ◌+◌, ℕ, Option, None, List, [], ◌∷◌, ◌++◌, length, get_or, take, drop, refl, sym, ap, subst, ◌∙◌, arith, inl, inr}
-use Rattle.std.proofs.lemmas.Bool.{cases_lt}
-use Rattle.std.proofs.lemmas.List.{drop-drop, drop-set-lt, get_or_past, take_more_set}
+use Rattle.palmheap_c.proofs.Words.{◌≡◌, ◌<◌, ◌+◌, ℕ, List, [], ◌∷◌, ◌++◌, length, get_or, take, drop, refl, sym, ap, subst, ◌∙◌, arith, inl, inr, cases_lt, drop-drop, drop-set-lt, get_or_past, take_more_set, All, slice_set, Entry, a_record, a_resource, database_in, entry_count_in, entry_in, header_in, name_field, name_in, info_of, HasNoFault, numbered, DbInfo, IsBlockWithin, places_in, IsInside, placed, HasDataInside, IsRead, Outputs, place_of_data, entry_in_c, file_entry_at, place_of_rank, database_from_c, Block, FileEntry}
+use Rattle.std.proofs.Common.{Option, None}
 use Rattle.std.proofs.lemmas.List.FromFn.{get_or-map-range_with_len, length-map-range_with_len, map-range_with_len_more}
-use Rattle.std.specs.Prelude.{All, slice_set}
 use Rattle.db_format.specs.Headers.{IsHeaderOf, info_told}
 use Rattle.db_format.specs.declared.header.DbHeader.{DbHeader}
-use Rattle.heap_model.specs.Database.{Entry, a_record, a_resource, database_in, entry_count_in, entry_in, header_in, name_field, name_in}
-use Rattle.heap_model.specs.DatabaseSteps.{info_of}
-use Rattle.heap_model.specs.Files.{HasNoFault}
-use Rattle.heap_model.specs.Lists.{numbered}
-use Rattle.heap_model.specs.declared.database.DbInfo.{DbInfo}
-use Rattle.pdb_format.specs.Blocks.{IsBlockWithin, places_in}
 use Rattle.pdb_format.specs.Opened.{HasPlaces}
 use Rattle.pdb_format.specs.declared.blocks.Block as files
 use Rattle.palm_store.proofs.Lookups.{info_read}
-use Rattle.palmheap_c.specs.Blocks.{IsInside, placed}
-use Rattle.palmheap_c.specs.FileEntries.{HasDataInside, IsRead, Outputs, place_of_data, entry_in_c, file_entry_at, place_of_rank}
-use Rattle.palmheap_c.specs.Infos.{database_from_c}
-use Rattle.palmheap_c.specs.declared.blocks.Block.{Block}
-use Rattle.palmheap_c.specs.declared.file_entries.FileEntry.{FileEntry}
 use Rattle.palmheap_c.proofs.BlockLaws.{inside_placed}
 
 -- its name is that of the file

@@ -1,9 +1,5 @@
 -- Names that were copied to the start of an array are those of all loans.
-use Rattle.std.proofs.Common.{◌≡◌, ◌<◌, ℕ, List, length, take, drop, refl}
-use Rattle.heap_model.specs.Memory.{Memory}
-use Rattle.heap_model.specs.declared.names.Name.{Name}
-use Rattle.mem_manager.specs.Loans.{AreLoansAbove}
-use Rattle.palmheap_c.specs.LoanNames.{AreLoans, HasMoreLoans, numbers_of_names}
+use Rattle.palmheap_c.proofs.Words.{◌≡◌, ◌<◌, ℕ, List, length, take, drop, refl, Memory, Name, AreLoansAbove, AreLoans, HasMoreLoans, numbers_of_names}
 
 pub are_loans : (store : Memory) (names : List Name) (old new : List ℕ) → AreLoansAbove store 0 names → take (length names) new ≡ numbers_of_names names → drop (length names) new ≡ drop (length names) old
     → AreLoans store old new (length names)

@@ -1,22 +1,8 @@
 -- The bytes that are out under a name stay out while others are taken out and put back.
-use Rattle.std.proofs.Common.{true, false, Bool, ◌≡◌, ◌≢◌, ℕ, ◌+◌, ◌≤◌, List, [], ◌∷◌, length, refl, sym, ap, subst, ◌∙◌, arith, inl, inr}
-use Rattle.std.proofs.lemmas.Bool.{cases_eq, eq-eqb, eqb-true, ne_eqb}
-use Rattle.std.proofs.lemmas.Bool.Decides.{nat_tests}
-use Rattle.std.specs.Prelude.{◌⊎◌, ◌==◌, Option, Some, if◌then◌else◌}
+use Rattle.palmheap_c.proofs.Words.{true, false, Bool, ◌≡◌, ◌≢◌, ℕ, ◌+◌, ◌≤◌, List, [], ◌∷◌, length, refl, sym, ap, subst, ◌∙◌, arith, inl, inr, cases_eq, eq-eqb, eqb-true, ne_eqb, nat_tests, ◌==◌, Option, Some, if◌then◌else◌, IsLent, Memory, Lent, SomeLent, without, chunks_of, is_fixed_name, area_start, place_of, place_under, Call, DoesInStore, Reply, Name, some_to, OnLoan, IsOutUnder, TakesOutOfStore, PutsBackInStore, PartOut}
+use Rattle.std.specs.Prelude.{◌⊎◌}
 use Rattle.heap_model.specs.Chunk.{Chunk, free, movable, fixed, need}
-use Rattle.heap_model.specs.Lending.{IsLent}
-use Rattle.heap_model.specs.Memory.{Memory, Lent, SomeLent, without}
-use Rattle.heap_model.specs.Reading.{chunks_of, is_fixed_name}
-use Rattle.heap_model.specs.Slots.{area_start}
-use Rattle.heap_model.specs.Space.{place_of, place_under}
-use Rattle.heap_model.specs.StoreSteps.{Call, DoesInStore}
-use Rattle.heap_model.specs.declared.call.Reply.{Reply}
-use Rattle.heap_model.specs.declared.names.Name.{Name}
-use Rattle.laws_heap.proofs.LentBodies.{some_to}
-use Rattle.mem_manager.specs.Loans.{OnLoan, IsOutUnder}
 use Rattle.mem_manager.proofs.OutLaws.{call_places, out_stays}
-use Rattle.palm_store.specs.Loans.{TakesOutOfStore, PutsBackInStore}
-use Rattle.raw_region.specs.Parts.{PartOut}
 
 -- ---- two names with one place
 

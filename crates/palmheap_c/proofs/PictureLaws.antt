@@ -1,15 +1,9 @@
 -- Pictures of images, and why there is none.
-use Rattle.std.proofs.Common.{◌≡◌, ℕ, List, ap, subst, sym, ◌∙◌, inr}
-use Rattle.heap_model.specs.Store.{Accepted}
-use Rattle.heap_map.specs.Pictures.{IsMapFault}
+use Rattle.palmheap_c.proofs.Words.{◌≡◌, ℕ, List, ap, subst, sym, ◌∙◌, inr, Accepted, IsMapFault, BadImage, StoreFault, of_store, Answer}
 use Rattle.heap_map.specs.Text.{map_text}
-use Rattle.heap_map.specs.declared.picture.MapFault.TheVariants.{BadImage}
 use Rattle.heap_svg.specs.Drawing.{IsDrawing}
 use Rattle.store_check.specs.Faults.{IsFirstStoreFault}
-use Rattle.store_check.specs.declared.fault.StoreFault.{StoreFault}
-use Rattle.palmheap_c.specs.Answers.{of_store}
 use Rattle.palmheap_c.specs.ImageTexts.{IsPictureIn, IsTextRefusal}
-use Rattle.palmheap_c.specs.declared.answers.Answer.{Answer}
 use Rattle.palmheap_c.specs.declared.pictures.PictureForm.TheVariants.{Text, Svg}
 
 pub mapped : (image bytes text : List ℕ) → bytes ≡ image → Accepted bytes → text ≡ map_text bytes → IsPictureIn Text image text

@@ -1,13 +1,6 @@
 -- What is out under a name, in the list of chunks to which pointers are out, if the list changes at
 -- one name.
-use Rattle.std.proofs.Common.{true, false, Bool, ◌≡◌, ◌≢◌, ℕ, [], ◌∷◌, cond, refl, sym, ap, ◌∙◌, arith, Ordering, Less, Equal, Greater}
-use Rattle.std.proofs.lemmas.Bool.Decides.{nat_tests}
-use Rattle.std.specs.BTreeMap.{insert_entry, is_at}
-use Rattle.std.specs.Map.{remove_entry, set_value}
-use Rattle.std.specs.Ordering.{is_eq, match_ordering, nat_cmp}
-use Rattle.std.specs.Prelude.{Option, Some, None}
-use Rattle.palmheap_c.specs.Pointers.{Pointers, pinned}
-use Rattle.palmheap_c.specs.declared.pointers.Pinned.{Pinned}
+use Rattle.palmheap_c.proofs.Words.{true, false, Bool, ◌≡◌, ◌≢◌, ℕ, [], ◌∷◌, cond, refl, sym, ap, ◌∙◌, arith, Ordering, Less, Equal, Greater, nat_tests, insert_entry, is_at, remove_entry, set_value, is_eq, match_ordering, nat_cmp, Option, Some, None, Pointers, pinned, Pinned}
 
 -- ---- one key
 

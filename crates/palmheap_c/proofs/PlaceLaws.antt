@@ -1,25 +1,6 @@
 -- Where the pointers to chunks are, counted from the start of an image, and which chunk is found there.
-use Rattle.std.proofs.Common.{◌≡◌, ◌≤◌, ℕ, List, [], ◌∷◌, length, sym, ap, ◌∙◌, arith, inl, inr}
-use Rattle.std.specs.Prelude.{Option, Some, None}
-use denote.RawPtr.{Ptr, ◌+ₚ◌}
-use Rattle.heap_model.specs.Meaning.{LiveChunk}
-use Rattle.heap_model.specs.Memory.{Memory, Lent, SomeLent}
-use Rattle.heap_model.specs.MemorySteps.{Of}
-use Rattle.heap_model.specs.Reading.{chunks_of}
-use Rattle.heap_model.specs.Slots.{area_start}
-use Rattle.heap_model.specs.Space.{place_of}
-use Rattle.heap_model.specs.Store.{store_of}
-use Rattle.heap_model.specs.StoreSteps.{DoesInStore}
+use Rattle.palmheap_c.proofs.Words.{◌≡◌, ◌≤◌, ℕ, List, [], ◌∷◌, length, sym, ap, ◌∙◌, arith, inl, inr, Option, Some, None, Ptr, ◌+ₚ◌, LiveChunk, Memory, Lent, SomeLent, Of, chunks_of, area_start, place_of, store_of, DoesInStore, Recover, Named, Refused, Refusal, AllLieIn, PartOut, as_name, as_place, Opened, AreAtPlaces, HoldsPointers, loan_of, pinned, Pinned}
 use Rattle.heap_model.specs.declared.call.Call.TheVariants as calls
-use Rattle.heap_model.specs.declared.call.MemoryCall.TheVariants.{Recover}
-use Rattle.heap_model.specs.declared.call.Reply.TheVariants.{Named, Refused}
-use Rattle.heap_model.specs.declared.refusal.Refusal.{Refusal}
-use Rattle.raw_region.specs.Holes.{AllLieIn}
-use Rattle.raw_region.specs.Parts.{PartOut}
-use Rattle.palmheap_c.specs.Calls.{as_name, as_place}
-use Rattle.palmheap_c.specs.Opened.{Opened}
-use Rattle.palmheap_c.specs.Pointers.{AreAtPlaces, HoldsPointers, loan_of, pinned}
-use Rattle.palmheap_c.specs.declared.pointers.Pinned.{Pinned}
 use Rattle.palmheap_c.proofs.OutLaws.{one_under}
 
 at_place : (start : Ptr) (size name : ℕ) (bytes : List ℕ) (part : PartOut) (lents : List Lent) → AllLieIn start size lents → SomeLent (λ lent. (place_of bytes name ≡ Some lent.at) × (part.start ≡ lent.start) × (length part.bytes ≡ lent.count)) lents

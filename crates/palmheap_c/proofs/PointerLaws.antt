@@ -1,37 +1,10 @@
 -- Locking a chunk for a pointer, and unlocking it.
-use Rattle.std.proofs.Common.{Bool, ◌≡◌, ◌≢◌, ◌+◌, ◌-◌, ℕ, List, [], length, refl, sym, ap, subst, ◌∙◌, arith, inl, inr}
-use Rattle.std.proofs.lemmas.Bool.{cases_eq, eq-eqb}
-use Rattle.std.specs.BTreeMap.{insert_entry, is_at}
-use Rattle.std.specs.Map.{set_value}
-use Rattle.std.specs.Ordering.{nat_cmp}
-use Rattle.std.specs.Prelude.{if◌then◌else◌, Option, Some, None, Result, Ok, Err, IfOk, IfErr}
-use denote.RawPtr.{Ptr}
-use Rattle.heap_model.specs.Lending.{IsLent}
-use Rattle.heap_model.specs.Meaning.{LiveChunk}
+use Rattle.palmheap_c.proofs.Words.{Bool, ◌≡◌, ◌≢◌, ◌+◌, ◌-◌, ℕ, List, [], length, refl, sym, ap, subst, ◌∙◌, arith, inl, inr, cases_eq, eq-eqb, insert_entry, is_at, set_value, nat_cmp, if◌then◌else◌, Option, Some, None, Result, Ok, IfOk, IfErr, Ptr, IsLent, LiveChunk, Memory, SomeLent, Of, FirstBrings, place_of, store_of, Call, DoesInStore, Reply, number_of, Lock, Locks, Read, Unlock, Data, Locked, Number, Refused, Name, Refusal, ChunkFixed, LockOverflow, some_to, OnLoan, IsOutUnder, also_out_checks, DoesMemory, number_or_refused, Buffer, DoesInC, DoesAlways, DoesData, as_name, Opened, HasBytesOut, HoldsPointers, IsPinned, GivesPointer, LetsLoanGo, LocksAgain, LocksFirst, LocksPointer, RefusesFirst, RefusesPointer, Pointers, CountsPointers, Unlocks, UnlocksLast, UnlocksPointer, WantsEntry, loan_of, locked_times, pinned, pointer_checks, Pinned}
+use Rattle.std.specs.Prelude.{Err}
 use Rattle.heap_model.specs.Maps.{callers_map, changed}
-use Rattle.heap_model.specs.Memory.{Memory, SomeLent}
-use Rattle.heap_model.specs.MemorySteps.{Of}
-use Rattle.heap_model.specs.Refusals.{FirstBrings}
-use Rattle.heap_model.specs.Space.{place_of}
-use Rattle.heap_model.specs.Store.{store_of}
-use Rattle.heap_model.specs.StoreSteps.{Call, DoesInStore}
-use Rattle.heap_model.specs.declared.call.Reply.{Reply}
-use Rattle.heap_model.specs.Numbers.{number_of}
-use Rattle.heap_model.specs.declared.call.MemoryCall.TheVariants.{Lock, Locks, Read, Unlock}
-use Rattle.heap_model.specs.declared.call.Reply.TheVariants.{Data, Locked, Number, Refused}
-use Rattle.heap_model.specs.declared.names.Name.{Name}
 use Rattle.heap_model.specs.declared.names.Place.{Place}
-use Rattle.heap_model.specs.declared.refusal.Refusal.{Refusal}
-use Rattle.heap_model.specs.declared.refusal.Refusal.TheVariants.{ChunkFixed, Lent, LockOverflow, OutOfMemory}
-use Rattle.laws_heap.proofs.LentBodies.{some_to}
-use Rattle.mem_manager.specs.Loans.{OnLoan, IsOutUnder, also_out_checks}
+use Rattle.heap_model.specs.declared.refusal.Refusal.TheVariants.{Lent, OutOfMemory}
 use Rattle.palm_store.specs.Loans as stores
-use Rattle.palm_store.specs.Replies.{DoesMemory, number_or_refused}
-use Rattle.palmheap_c.specs.Buffers.{Buffer}
-use Rattle.palmheap_c.specs.Calls.{DoesInC, DoesAlways, DoesData, as_name}
-use Rattle.palmheap_c.specs.Opened.{Opened}
-use Rattle.palmheap_c.specs.Pointers.{HasBytesOut, HoldsPointers, IsPinned, GivesPointer, LetsLoanGo, LocksAgain, LocksFirst, LocksPointer, RefusesFirst, RefusesPointer, Pointers, CountsPointers, Unlocks, UnlocksLast, UnlocksPointer, WantsEntry, loan_of, locked_times, pinned, pointer_checks}
-use Rattle.palmheap_c.specs.declared.pointers.Pinned.{Pinned}
 use Rattle.palmheap_c.proofs.OutLaws.{puts_out, step_out, takes_out}
 use Rattle.palmheap_c.proofs.PinLaws.{insert_other, insert_own, remove_other, set_other, set_own}
 

@@ -1,43 +1,22 @@
 -- What was read of a file is written back as that file.
-use Rattle.std.proofs.Common.{◌≡◌, ℕ, zero, suc, ◌+◌, ◌<◌, ◌≤◌, Bool, true, false, Option, Some, None, List, [], ◌∷◌, ◌++◌, length, get_or, take, drop, map, refl, sym, ap, subst, ◌∙◌, arith, inl, inr}
-use Rattle.std.specs.Prelude.{◌&&◌, All, nat_le, slice_index}
-use Rattle.std.specs.List.{AllZip, list_all, range_with_len}
+use Rattle.palmheap_c.proofs.Words.{◌≡◌, ℕ, zero, suc, ◌+◌, ◌<◌, ◌≤◌, Bool, true, false, List, [], ◌∷◌, ◌++◌, length, get_or, take, drop, refl, sym, ap, subst, ◌∙◌, arith, inl, inr, ◌&&◌, All, nat_le, slice_index, AllZip, list_all, range_with_len, and_from, le-leb, get_or-map, length-map, All-head, All-tail, Database, DatabaseHeader, a_record, a_resource, data_in, database_in, entry_at, entry_count_in, entry_data, entry_offset, entry_with, has_resources, header_in, name_field, name_in, resources_in, info_of, block_bytes, blocks_in, numbered, DbInfo, most_bytes, places_in, ExactFile, IsExactly, exact_database, exact_entry, exact_in, part_if, placed_well, size_is, IsInside, placed, Buffer, PutsBytes, HasDataInside, place_of_data, entry_in_c, file_entry_at, place_of_rank, database_from_c, Given, HasRefusedEntry, IsNoFile, IsReadOf, IsWriteAnswer, IsWrittenBack, are_inside, block_from_c, exact_from_c, given, has_data_inside, header_from_c, is_inside, name_from_c, named_database, named_entry, part_from_c, parts_from_c, Answer, Block, FileEntry}
+use Rattle.std.proofs.Common.{Option, Some, None, map}
 use Rattle.std.proofs.Math.Seq.{get_or-append_seam}
-use Rattle.std.proofs.lemmas.Bool.{and_from, le-leb}
-use Rattle.std.proofs.lemmas.List.{get_or-map, length-map, length-take}
-use Rattle.std.proofs.lemmas.List.Elements.{All-head, All-tail}
+use Rattle.std.proofs.lemmas.List.{length-take}
 use Rattle.heap_model.specs.Bytes.{AreBytes, u16_at, u24_at, u32_at}
 use Rattle.heap_model.specs.DatabaseFields.{record_attributes_at, record_id_at, resource_id_at}
-use Rattle.heap_model.specs.Database.{Database, DatabaseHeader, a_record, a_resource, data_in, database_in, entry_at, entry_count_in, entry_data, entry_offset, entry_with, has_resources, header_in, name_field, name_in, resources_in}
-use Rattle.heap_model.specs.DatabaseSteps.{info_of}
-use Rattle.heap_model.specs.Files.{block_bytes, blocks_in}
-use Rattle.heap_model.specs.Lists.{numbered}
-use Rattle.heap_model.specs.declared.database.DbInfo.{DbInfo}
 use Rattle.laws_store.proofs.Names.{length-name_field}
-use Rattle.canonical_file.specs.Canonical.{most_bytes}
 use Rattle.pdb_format.specs.Blocks as file_blocks
-use Rattle.pdb_format.specs.Blocks.{places_in}
 use Rattle.pdb_format.specs.Filler.{filler_in}
 use Rattle.pdb_format.specs.Writable.{IsWritableEntry}
 use Rattle.pdb_format.specs.declared.blocks.Block as files
 use Rattle.pdb_format.proofs.FileNames.{file_named}
 use Rattle.pdb_format.proofs.PlacedBlocks.{all_put}
-use Rattle.file_parts.specs.Exact.{ExactFile, IsExactly, exact_database, exact_entry, exact_in}
 use Rattle.file_parts.specs.Packing.{filled, part_at, with_parts}
-use Rattle.file_parts.specs.Values.{part_if}
 use Rattle.file_parts.proofs.ExactRanks.{true_false}
 use Rattle.file_parts.proofs.ExactRead.{is_exactly, name_front}
-use Rattle.file_parts.proofs.ExactSpelled.{placed_well, size_is}
 use Rattle.file_parts.proofs.PartsBack.{AreNamesOf, IsFilledTo, filled_back}
 use Rattle.file_parts.proofs.ValuesBack.{entries_writable, few_entries, not_refused, valid_name}
-use Rattle.palmheap_c.specs.Blocks.{IsInside, placed}
-use Rattle.palmheap_c.specs.Buffers.{Buffer, PutsBytes}
-use Rattle.palmheap_c.specs.FileEntries.{HasDataInside, place_of_data, entry_in_c, file_entry_at, place_of_rank}
-use Rattle.palmheap_c.specs.Infos.{database_from_c}
-use Rattle.palmheap_c.specs.Writing.{Given, HasRefusedEntry, IsNoFile, IsReadOf, IsWriteAnswer, IsWrittenBack, are_inside, block_from_c, exact_from_c, given, has_data_inside, header_from_c, is_inside, name_from_c, named_database, named_entry, part_from_c, parts_from_c}
-use Rattle.palmheap_c.specs.declared.answers.Answer.{Answer}
-use Rattle.palmheap_c.specs.declared.blocks.Block.{Block}
-use Rattle.palmheap_c.specs.declared.file_entries.FileEntry.{FileEntry}
 use Rattle.palmheap_c.specs.declared.infos.DatabaseInfo.{DatabaseInfo}
 
 -- ---- the header

@@ -1,17 +1,11 @@
 -- A run of a script.
-use Rattle.std.proofs.Common.{◌≡◌, ℕ, List, [], ◌∷◌, ◌+◌, length, suc, refl, sym, ap, ◌∙◌, subst, subst₂, Option, Some, Ok}
+use Rattle.palmheap_c.proofs.Words.{◌≡◌, ℕ, List, [], ◌∷◌, ◌+◌, length, suc, refl, sym, ap, ◌∙◌, subst, subst₂, GrowthRefused, Memory, Accepted, read_script, FillsBuffer, IsOpenStore, HasResults, HasSizes, AreShortBuffers, Ran, RunsInPlace, RunsShort, Written, ends_from, joined}
+use Rattle.std.proofs.Common.{Option, Some, Ok}
 use Rattle.std.specs.Io.KnownBytes.{Appends}
-use Rattle.allowance.specs.Refusals.{GrowthRefused}
-use Rattle.heap_model.specs.Memory.{Memory}
-use Rattle.heap_model.specs.Store.{Accepted}
 use Rattle.palm_text.specs.Counted.{Writing}
 use Rattle.palm_text.specs.Output.{output}
 use Rattle.script_calls.specs.Lines.{Labelled, Lines, RunsThroughShort, Setting, bound_after, labelled, setting, unbound}
-use Rattle.script_lines.specs.Reading.{read_script}
 use Rattle.script_lines.specs.declared.line.Line.{Line}
-use Rattle.palmheap_c.specs.Buffers.{FillsBuffer}
-use Rattle.palmheap_c.specs.Opening.{IsOpenStore}
-use Rattle.palmheap_c.specs.Runs.{HasResults, HasSizes, AreShortBuffers, Ran, RunsInPlace, RunsShort, Written, ends_from, joined}
 use Rattle.palmheap_c.specs.declared.results.Results.{Results}
 use Rattle.palmheap_c.specs.declared.results.Sizes.{Sizes}
 

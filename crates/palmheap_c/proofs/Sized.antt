@@ -1,15 +1,7 @@
 -- The machine value of a `LentPart`: a pointer and a number. Assumes `Logic`.
-use Rattle.std.proofs.Common.{◌≡◌, ℕ, ◌^◌, ◌<◌, List, [], ◌∷◌, ◌++◌, refl, ◌∙◌, w64}
-use seplogic.Ra.Ura.{Ura}
-use mir.Val.{Val, vint, vstruct, vcons, vnil, of_list}
-use base.Logic.{ent, emp}
-use base.Fml.{Fml}
-use types.Logic.{Logic, sem}
-use denote.RattleType.{RattleType}
+use Rattle.palmheap_c.proofs.Words.{◌≡◌, ℕ, ◌^◌, ◌<◌, List, [], ◌∷◌, ◌++◌, refl, ◌∙◌, w64, Ura, Val, vint, vstruct, vcons, vnil, of_list, ent, emp, Fml, Logic, sem, RattleType, Ptr, RawPtr, ptr_val, Struct}
 use denote.Builtin.{usize}
-use denote.RawPtr.{Ptr, RawPtr, ptr_val}
 use denote.Shadow.{shadow, makes_shadow}
-use denote.Struct.Struct.{Struct}
 
 -- a struct by its fields alone: what it owns does not read its name
 abbrev pub plainly : List RattleType → RattleType

@@ -1,33 +1,15 @@
 -- The machine values of a `Kept`, a `Slot` and `Parts`. Assumes `Logic`.
-use Rattle.std.proofs.Common.{◌≡◌, ℕ, List, [], ◌∷◌, ◌++◌, refl, ap, ◌∙◌, subst}
+use Rattle.palmheap_c.proofs.Words.{◌≡◌, ℕ, List, [], ◌∷◌, ◌++◌, refl, ap, ◌∙◌, subst, T, Ura, impl, tnil, dnil, Val, vptr, vstruct, vcons, vnil, of_list, has_ty, WT, Logic, sem, Item, Goal, Seq, Step, step, ‵, ◌$◌, move, fsplit, fpick, feq_l, fjoin, fpack, feq_i, RattleType, Valss, Is, Ptr, block_ptr, null_ptr, ptr_val, in_a_block, never, fst∗, lone, nothing, layout, Struct, within, Al, handle_tells, box_owns, Option, Opened, slot_owns}
 use mathlib.Core.Bool.{true, ◌&&◌}
-use lib.Dec.{T}
-use seplogic.Ra.Ura.{Ura}
-use mir.Syntax.{impl, tnil, dnil}
-use mir.Val.{Val, vptr, vstruct, vcons, vnil, of_list, has_ty, WT}
-use types.Logic.{Logic, sem}
-use types.Kit.{Item, Goal, Seq, Step, step, ‵, ◌$◌, move, drop, fsplit, fpick, feq_l, fjoin, fpack, feq_i}
-use denote.RattleType.{RattleType, Valss}
+use types.Kit.{drop}
 use denote.Builtin.{RawPtr}
-use denote.Laws.{Is}
-use denote.RawPtr.{Ptr, block_ptr, null_ptr, ptr_val, in_a_block}
-use base.Logic.{never, fst∗}
 use mir.Raw.{raw as bare}
-use denote.Memory.{lone}
-use denote.Steps.{nothing}
-use denote.Param.{layout}
 use denote.Param.Laws.{Laws}
-use denote.Struct.Struct.{Struct, within}
 use denote.Struct.Owning.{shape}
 use Rattle.core.specs.declared.alloc.Allocator.{Ghosts}
-use Rattle.core.proofs.alloc.Calls.{Al, handle_tells}
 use Rattle.core.proofs.cell.Inside.{Good}
-use Rattle.std_alloc.specs.Box.Ownership.{box_owns}
 use Rattle.std_alloc.proofs.ResultValues.{and_tt}
 use Rattle.palmheap_c.specs.contracts.parts.Parts as parts
-use Rattle.std.specs.Prelude.{Option}
-use Rattle.palmheap_c.specs.Opened.{Opened}
-use Rattle.palmheap_c.specs.Holding.{slot_owns}
 use Rattle.palmheap_c.specs.contracts.kept.Kept as kept
 use Rattle.palmheap_c.specs.contracts.kept.Slot as slot
 

@@ -1,20 +1,10 @@
 -- The file that is put together from values of a caller.
-use Rattle.std.proofs.Common.{true, ◌≡◌, ◌<◌, ◌≤◌, ◌+◌, ◌∷◌, [], ℕ, List, length, length-append, sym, ap, subst, ◌∙◌, arith}
-use Rattle.std.specs.Prelude.{◌&&◌, map}
-use Rattle.std.specs.List.{AllPass, list_all}
-use Rattle.std.proofs.lemmas.Bool.{and_parts}
+use Rattle.palmheap_c.proofs.Words.{true, ◌≡◌, ◌<◌, ◌≤◌, ◌+◌, ◌∷◌, [], ℕ, List, length, length-append, sym, ap, subst, ◌∙◌, arith, ◌&&◌, map, AllPass, list_all, and_parts, length-map, data_in, entry_data, has_resources, most_bytes, ExactFile, IsExactly, exact_bytes, exact_size, is_misplaced, bytes_are, LineFault, Given, HasMisplaced, IsFileOf, are_inside, exact_from_c, has_data_inside, is_inside, named_database, named_entry, part_from_c, parts_from_c, text_from_c}
 use Rattle.std.proofs.lemmas.List.Sums.{AllPass-from_list_all}
-use Rattle.std.proofs.lemmas.List.{length-map}
-use Rattle.heap_model.specs.Database.{data_in, entry_data, has_resources}
-use Rattle.canonical_file.specs.Canonical.{most_bytes}
-use Rattle.file_parts.specs.Exact.{ExactFile, IsExactly, exact_bytes, exact_size, is_misplaced}
 use Rattle.file_parts.specs.ExactListed.{HasExactParts, IsExactlyPacked, IsListedExact, IsMisplacedFault, exact_listed, exact_packed}
 use Rattle.file_parts.specs.ExactTexts.{ExactText, exact_of_parts}
 use Rattle.file_parts.specs.declared.exact_listed.ListedExact.{ListedExact}
 use Rattle.file_parts.proofs.ExactPackedBack.{packed_back}
-use Rattle.file_parts.proofs.ExactSpelled.{bytes_are}
-use Rattle.script_lines.specs.declared.fault.LineFault.{LineFault}
-use Rattle.palmheap_c.specs.Writing.{Given, HasMisplaced, IsFileOf, are_inside, exact_from_c, has_data_inside, is_inside, named_database, named_entry, part_from_c, parts_from_c, text_from_c}
 
 -- each block that is there lies within the bytes
 pub app_inside : (it : Given) → are_inside it ≡ true → is_inside (length it.bytes) it.app ≡ true

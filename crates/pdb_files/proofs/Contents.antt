@@ -1,20 +1,9 @@
 -- The content of a database, which is given by its bytes: how many entries it has, and the one of
 -- an index.
-use Rattle.std.proofs.Common.{◌≡◌, ℕ, suc, ◌+◌, ◌<◌, Option, List, ◌∷◌, length, map, get_or, drop, refl, sym, ap, ◌∙◌, arith, add-one, drop-cons}
-use Rattle.std.proofs.lemmas.List.{length-map, get_or-map}
-use Rattle.std.proofs.lemmas.List.FromFn.{length-map-range_with_len, get_or-map-range_with_len}
-use Rattle.heap_model.specs.Meaning.{ChunkMap}
-use Rattle.heap_model.specs.Lists.{numbered}
-use Rattle.heap_model.specs.Bytes.{u32_at}
-use Rattle.heap_model.specs.DatabaseFields.{app_info_at, sort_info_at}
-use Rattle.heap_model.specs.Database.{Database, Entry, a_record, a_resource, entry_data, entry_with, header_in, resources_in, entry_offset, entry_in, entry_count_in, database_in}
-use Rattle.heap_model.specs.Store.{bytes_named, content}
-use Rattle.heap_model.specs.Files.{idle_attributes, idle_entry, idle, block_size, block_offset, with_offsets, first_block}
+use Rattle.pdb_files.proofs.Words.{◌≡◌, ℕ, suc, ◌+◌, ◌<◌, Option, List, ◌∷◌, length, map, get_or, drop, refl, sym, ap, ◌∙◌, arith, add-one, drop-cons, length-map, get_or-map, length-map-range_with_len, get_or-map-range_with_len, ChunkMap, numbered, u32_at, app_info_at, sort_info_at, Database, Entry, a_record, a_resource, entry_data, entry_with, header_in, resources_in, entry_offset, entry_in, entry_count_in, database_in, bytes_named, content, idle_attributes, idle_entry, idle, block_size, block_offset, with_offsets, first_block, length-with_offsets, ArePlaces, file_entry}
 use Rattle.db_format.specs.declared.header.DbHeader.{DbHeader}
 use Rattle.db_format.specs.Headers.{IsHeaderOf}
-use Rattle.pdb_format.proofs.FileParts.{length-with_offsets}
 use Rattle.pdb_files.specs.declared.exporting.places.Places.{Places}
-use Rattle.pdb_files.specs.FileParts.{ArePlaces, file_entry}
 
 -- the entries
 abbrev pub entries_of : ChunkMap → List ℕ → List (Entry (Option (List ℕ)))

@@ -1,33 +1,9 @@
 -- The database that is exported, and the steps of the call.
-use Rattle.std.proofs.Common.{◌≡◌, ℕ, ◌^◌, ◌<◌, Option, Some, None, List, get_or, refl, sym, ap, subst, ◌∙◌, arith, inl, inr}
-use Rattle.std.specs.Prelude.{IsSome, All, Any}
-use Rattle.std.proofs.lemmas.Bool.{cases_eq}
-use Rattle.std.proofs.lemmas.Grind.{get_or_default_zero}
-use Rattle.std.specs.List.{Contains}
-use Rattle.std.proofs.lemmas.Option.{get_or_from_slice_get, slice_get_within}
-use Rattle.heap_model.specs.Memory.{Memory}
-use Rattle.heap_model.specs.Lending.{IsLent}
-use Rattle.heap_model.specs.Database.{Database, data_in, database_in, IsSpelled, HasShape}
-use Rattle.heap_model.specs.Leaving.{database_here}
-use Rattle.heap_model.specs.Store.{StoredDatabase, databases, Accepted, content, store_of}
-use Rattle.heap_model.specs.StoreWords.{OfDatabase, with_number, In}
-use Rattle.heap_model.specs.Files.{file_of}
-use Rattle.heap_model.specs.StoreSteps.{DoesInStore}
-use Rattle.heap_model.specs.declared.names.Db.{Db}
-use Rattle.heap_model.specs.declared.call.FileCall.TheVariants.{Export}
+use Rattle.pdb_files.proofs.Words.{◌≡◌, ℕ, ◌^◌, ◌<◌, Option, Some, None, List, get_or, refl, sym, ap, subst, ◌∙◌, arith, inl, inr, IsSome, All, Any, cases_eq, get_or_default_zero, Contains, get_or_from_slice_get, slice_get_within, Memory, IsLent, Database, data_in, database_in, IsSpelled, HasShape, database_here, StoredDatabase, databases, Accepted, content, store_of, OfDatabase, with_number, In, file_of, DoesInStore, Db, Export, NoSuchDatabase, OutOfMemory, Lent, found_stands, number_here, times-all, same_store, asks, refused, file_size, IsDataName, named_owner, any_at, content_of, IsExportable}
 use Rattle.heap_model.specs.declared.call.Call.TheVariants as calls
 use Rattle.heap_model.specs.declared.call.Reply.TheVariants as replies
-use Rattle.heap_model.specs.declared.refusal.Refusal.TheVariants.{NoSuchDatabase, OutOfMemory, Lent}
-use Rattle.laws_store.proofs.Found.{found_stands}
-use Rattle.laws_store.proofs.Numbered.{number_here}
-use Rattle.laws_store.proofs.Times.{times-all}
-use Rattle.laws_store.proofs.CallSteps.{same_store, asks, refused}
-use Rattle.pdb_format.specs.Writable.{file_size}
 use Rattle.pdb_format.proofs.WrittenStores.{content_short}
 use Rattle.palm_store.specs.Databases.{HasNumber, HasDatabase, named_under}
-use Rattle.palm_store.specs.Files.{IsDataName}
-use Rattle.palm_store.proofs.NamedChunks.{named_owner, any_at}
-use Rattle.pdb_files.specs.FileParts.{content_of, IsExportable}
 
 -- ---- the database of a number
 

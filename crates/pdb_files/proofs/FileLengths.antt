@@ -1,18 +1,6 @@
 -- How long the file of a database is.
-use Rattle.std.proofs.Common.{◌≡◌, ℕ, ◌+◌, ◌*◌, Bool, true, false, Option, List, [], ◌∷◌, ◌++◌, length, map, ap, ◌∙◌, arith, length-append}
-use Rattle.std.specs.Prelude.{All}
-use Rattle.std.proofs.lemmas.List.{length-map}
-use Rattle.std.proofs.lemmas.List.Elements.{All-head, All-tail}
-use Rattle.heap_model.specs.DatabaseFields.{entry_size}
-use Rattle.heap_model.specs.Meaning.{ChunkMap}
-use Rattle.heap_model.specs.Database.{Database, Entry, a_record, a_resource, entry_with, has_resources, entry_bytes, EntryFits, DatabaseFits}
-use Rattle.heap_model.specs.Store.{bytes_named, content}
-use Rattle.heap_model.specs.Files.{idle_attributes, idle, block_size, block_offset, with_offsets, first_block, file_of}
+use Rattle.pdb_files.proofs.Words.{◌≡◌, ℕ, ◌+◌, ◌*◌, Bool, true, false, Option, List, [], ◌∷◌, ◌++◌, length, map, ap, ◌∙◌, arith, length-append, All, length-map, All-head, All-tail, entry_size, ChunkMap, Database, Entry, a_record, a_resource, entry_with, has_resources, entry_bytes, EntryFits, DatabaseFits, bytes_named, content, idle_attributes, idle, block_size, block_offset, with_offsets, first_block, file_of, file_size, data_at, header_text, entries_text, file_parts, record_long, resource_long, blocks_text}
 use Rattle.laws_store.proofs.Spellings.{length-header_bytes}
-use Rattle.pdb_format.specs.Writable.{file_size}
-use Rattle.pdb_format.specs.FileTexts.{data_at, header_text, entries_text}
-use Rattle.pdb_format.proofs.FileParts.{file_parts, record_long, resource_long}
-use Rattle.pdb_format.specs.FileTexts.{blocks_text}
 
 entries_long : (r : Bool) (chunks : ChunkMap) (at : ℕ) (es : List (Entry ℕ)) → All (EntryFits r) es → length (entries_text at (map (entry_with (bytes_named chunks)) es)) ≡ entry_size r * length es
 entries_long r chunks at [] all = omega arith

@@ -1,17 +1,5 @@
 -- The parts of a file in their order, and the entries and their data, one after the other.
-use Rattle.std.proofs.Common.{◌≡◌, ℕ, ◌+◌, ◌<◌, ◌≤◌, Bool, true, false, Option, Result, Ok, Err, List, [], ◌∷◌, ◌++◌, length, drop, refl, sym, ap, subst, ◌∙◌, arith, length-append}
-use Rattle.std.proofs.lemmas.Grind.{common_steps}
-use Rattle.std.specs.Prelude.{IsErr, is_ok}
-use Rattle.palm_text.specs.Counted.{Writing, Writes}
-use Rattle.heap_model.specs.Meaning.{ChunkMap}
-use Rattle.heap_model.specs.Database.{Database, Entry, a_record, a_resource, entry_data, entry_with, entry_bytes, entry_in, entry_count_in}
-use Rattle.heap_model.specs.Store.{bytes_named}
-use Rattle.heap_model.specs.Files.{block_bytes, block_size, file_of}
-use Rattle.palm_text.proofs.Parts.{then, stops, nothing}
-use Rattle.pdb_format.specs.FileTexts.{data_at, header_text, entries_text, data_text}
-use Rattle.pdb_files.specs.FileParts.{file_entry}
-use Rattle.pdb_format.specs.FileTexts.{blocks_text}
-use Rattle.pdb_format.proofs.FileParts.{file_parts}
+use Rattle.pdb_files.proofs.Words.{◌≡◌, ℕ, ◌+◌, ◌<◌, ◌≤◌, Bool, true, false, Option, Result, Ok, Err, List, [], ◌∷◌, ◌++◌, length, drop, refl, sym, ap, subst, ◌∙◌, arith, length-append, common_steps, IsErr, is_ok, Writing, Writes, ChunkMap, Database, Entry, a_record, a_resource, entry_data, entry_with, entry_bytes, entry_in, entry_count_in, bytes_named, block_bytes, block_size, file_of, then, stops, nothing, data_at, header_text, entries_text, data_text, file_entry, blocks_text, file_parts}
 use Rattle.pdb_files.proofs.Contents.{entries_of, length-entries, entry_here}
 
 -- ---- the entries

@@ -1,33 +1,14 @@
 -- Chunks of zeros are filled one after the other, and nothing else changes.
-use Rattle.std.proofs.Common.{◌≡◌, ◌≢◌, ℕ, zero, suc, ◌+◌, ◌<◌, ◌≤◌, Option, Some, None, List, [], ◌∷◌, length, get_or, map, refl, sym, ap, subst, ◌∙◌, arith, inl, inr}
-use Rattle.std.specs.Prelude.{IsSome}
-use Rattle.std.specs.Option.{is_some}
-use Rattle.std.proofs.lemmas.Bool.{cases_eq, cases_lt}
-use Rattle.std.proofs.lemmas.List.{length-replicate}
-use Rattle.heap_model.specs.Chunk.{data_owner}
-use Rattle.heap_model.specs.Memory.{Memory}
+use Rattle.pdb_files.proofs.Words.{◌≡◌, ◌≢◌, ℕ, zero, suc, ◌+◌, ◌<◌, ◌≤◌, Option, Some, None, List, [], ◌∷◌, length, get_or, map, refl, sym, ap, subst, ◌∙◌, arith, inl, inr, IsSome, is_some, cases_eq, cases_lt, length-replicate, data_owner, Memory, times, LiveChunk, ChunkMap, MovesNothing, Of, owner_under, listed, databases, numbers_of, Accepted, store_of, rewritten, MakesNone, LeavesStore, same-yes, times-cons, times-some, times-contained, listed_number, number_held, owned_there, OnlyWrites, HasDataOf, data_filled, writes_then, HasBlock, zeros_for, AreFilled, AreOnce, Refills}
 use Rattle.heap_model.specs.Heap.{HeapAccepted, directory_of}
-use Rattle.heap_model.specs.Lists.{times}
-use Rattle.heap_model.specs.Meaning.{LiveChunk, ChunkMap}
 use Rattle.heap_model.specs.Reading.{held}
 use Rattle.heap_model.specs.Maps.{changed, not_owned, callers_map}
-use Rattle.heap_model.specs.Space.{MovesNothing}
-use Rattle.heap_model.specs.MemorySteps.{Of}
-use Rattle.heap_model.specs.Store.{owner_under, listed, databases, numbers_of, Accepted, store_of}
-use Rattle.heap_model.specs.Leaving.{rewritten}
-use Rattle.heap_model.specs.EntrySteps.{MakesNone, LeavesStore}
 use Rattle.laws_heap.proofs.KeptLoans.{keeps_itself}
 use Rattle.laws_heap.proofs.Meanings.{held-zero}
-use Rattle.laws_store.proofs.Times.{same-yes, times-cons, times-some, times-contained}
 use Rattle.laws_store.proofs.Owners.{directory_owner}
 use Rattle.laws_store.proofs.Counts.{listed_numbers}
 use Rattle.laws_store.proofs.Edited.{shown}
-use Rattle.laws_store.proofs.Numbered.{listed_number, number_held, owned_there}
-use Rattle.palm_store.specs.EntryCalls.{OnlyWrites}
-use Rattle.palm_store.specs.Files.{HasDataOf, data_filled}
-use Rattle.palm_store.proofs.Rests.{writes_then}
 use Rattle.palm_store.proofs.TwoSteps.{with_bytes, rewritten_here, rewritten_apart}
-use Rattle.pdb_files.specs.Filling.{HasBlock, zeros_for, AreFilled, AreOnce, Refills}
 
 -- ---- names that are in the list once
 

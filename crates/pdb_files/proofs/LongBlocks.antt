@@ -1,30 +1,9 @@
 -- No heap has room for a block of 4 GiB.
-use Rattle.std.proofs.Common.{◌≡◌, ℕ, zero, suc, ◌-◌, ◌^◌, ◌<◌, ◌≤◌, Option, Some, None, List, [], ◌∷◌, ◌++◌, length, get_or, map, set, refl, sym, ap, ◌∙◌, arith, inl, inr}
-use Rattle.std.specs.Prelude.{◌⊎◌, All}
-use Rattle.std.proofs.lemmas.Bool.{cases_lt}
-use Rattle.std.proofs.lemmas.List.{length-map, get_or-map}
-use Rattle.std.proofs.lemmas.List.Elements.{All-nil, All-cons, All-set}
-use Rattle.heap_model.specs.Memory.{Memory}
-use Rattle.heap_model.specs.Chunk.{need}
-use Rattle.heap_model.specs.Space.{rooms}
+use Rattle.pdb_files.proofs.Words.{◌≡◌, ℕ, zero, suc, ◌-◌, ◌^◌, ◌<◌, ◌≤◌, Option, Some, None, List, [], ◌∷◌, ◌++◌, length, get_or, map, set, refl, sym, ap, ◌∙◌, arith, inl, inr, ◌⊎◌, All, cases_lt, length-map, get_or-map, All-nil, All-cons, All-set, Memory, need, rooms, name_in, most_databases, Accepted, store_of, IsTaken, entries_end, blocks_in, HasNoFault, makings, listing_part, size_of_block, block_sizes, DoesInStore, Import, NotEnoughSpace, refused, bytes_at, IsBlockWithin, Block, size_within, IsShort, size_at}
 use Rattle.heap_model.specs.Rooms.{Part, Stuck}
-use Rattle.heap_model.specs.Database.{name_in}
-use Rattle.heap_model.specs.Store.{most_databases, Accepted, store_of}
-use Rattle.heap_model.specs.DatabaseSteps.{IsTaken}
-use Rattle.heap_model.specs.Files.{entries_end, blocks_in, HasNoFault}
-use Rattle.heap_model.specs.FileSteps.{makings, listing_part, size_of_block, block_sizes}
-use Rattle.heap_model.specs.StoreSteps.{DoesInStore}
-use Rattle.heap_model.specs.declared.call.FileCall.TheVariants.{Import}
 use Rattle.heap_model.specs.declared.call.Call.TheVariants as calls
 use Rattle.heap_model.specs.declared.call.Reply.TheVariants as replies
-use Rattle.heap_model.specs.declared.refusal.Refusal.TheVariants.{NotEnoughSpace}
 use Rattle.laws_heap.proofs.Fits.{short_beyond}
-use Rattle.laws_store.proofs.CallSteps.{refused}
-use Rattle.pdb_format.specs.Blocks.{bytes_at, IsBlockWithin}
-use Rattle.pdb_format.specs.declared.blocks.Block.{Block}
-use Rattle.pdb_format.specs.Blocks.{size_within}
-use Rattle.pdb_files.specs.Plans.{IsShort}
-use Rattle.pdb_format.proofs.FileBlocks.{size_at}
 use Rattle.pdb_files.proofs.Refusals.{good_brings}
 
 -- ---- rooms

@@ -1,17 +1,7 @@
 -- One entry of a file is planned, and then each of them.
-use Rattle.std.proofs.Common.{◌≡◌, ℕ, ◌+◌, ◌-◌, ◌<◌, Bool, true, false, Option, Some, None, List, [], ◌∷◌, ◌++◌, length, get_or, refl, sym, ap, subst, ◌∙◌, arith, length-append, inl, inr}
-use Rattle.std.specs.Prelude.{IsSome}
-use Rattle.std.proofs.lemmas.Bool.{cases_lt}
-use Rattle.std.proofs.lemmas.List.{get_or_append_left, get_or-append_right}
-use Rattle.heap_model.specs.Database.{Entry, a_record, a_resource, is_deleted, resources_in, entry_count_in, entry_in}
-use Rattle.heap_model.specs.Files.{HasNoFault, blocks_in, idle_attributes}
-use Rattle.heap_model.specs.FileSteps.{size_of_block}
-use Rattle.palm_store.specs.WholeDatabases.{WholeEntry}
+use Rattle.pdb_files.proofs.Words.{◌≡◌, ℕ, ◌+◌, ◌-◌, ◌<◌, Bool, true, false, Option, Some, None, List, [], ◌∷◌, ◌++◌, length, get_or, refl, sym, ap, subst, ◌∙◌, arith, length-append, inl, inr, IsSome, cases_lt, get_or_append_left, get_or-append_right, Entry, a_record, a_resource, is_deleted, resources_in, entry_count_in, entry_in, HasNoFault, blocks_in, idle_attributes, size_of_block, WholeEntry, HasIdsFor, IsPlannedAs, id_planned, IsPlannedOf, ArePlannedOf, none_planned, record_block, resource_block}
 use Rattle.palm_store.specs.declared.entries.infos.EntryInfo.TheVariants as infos
 use Rattle.pdb_format.proofs.WrittenFiles.{still_deleted}
-use Rattle.pdb_format.specs.ReadFiles.{HasIdsFor}
-use Rattle.pdb_files.specs.Plans.{IsPlannedAs, id_planned, IsPlannedOf, ArePlannedOf}
-use Rattle.pdb_format.proofs.FileBlocks.{none_planned, record_block, resource_block}
 
 pub record_planned : (file ids : List ℕ) (index attributes id at given idle : ℕ) (size : Option ℕ) → HasNoFault file → index < entry_count_in file → HasIdsFor file ids → a_record attributes id at ≡ entry_in file index → false ≡ resources_in file
     → size ≡ size_of_block (get_or (blocks_in file) (2 + index) None) → idle ≡ idle_attributes attributes → given ≡ get_or ids index 0 → IsPlannedOf file ids index (infos.Record idle given, size)

@@ -1,31 +1,7 @@
 -- What is planned of each entry, together with the header and the blocks, is a plan.
-use Rattle.std.proofs.Common.{◌≡◌, ℕ, zero, suc, ◌+◌, ◌<◌, ◌≤◌, Bool, Option, None, List, [], length, get_or, map, refl, sym, ap, subst, ◌∙◌, arith, inl, inr}
-use Rattle.std.specs.Prelude.{All}
-use Rattle.std.specs.List.{AllZip, filter_map}
-use Rattle.std.proofs.lemmas.List.{length-map, get_or-map, ext_get_or, nil_from_length}
-use Rattle.heap_model.specs.Bytes.{u16_at}
-use Rattle.heap_model.specs.DatabaseFields.{attributes_at}
-use Rattle.heap_model.specs.Lists.{Distinct}
-use Rattle.heap_model.specs.UniqueIds.{seed_in}
-use Rattle.heap_model.specs.Database.{DatabaseHeader, has_resources, IsDatabaseName, header_in, resources_in, entry_count_in, entry_in, database_in}
-use Rattle.heap_model.specs.Store.{unique_ids}
-use Rattle.heap_model.specs.EntrySteps.{most_entries}
-use Rattle.heap_model.specs.Files.{HaveIds, kept_ids, blocks_in}
-use Rattle.heap_model.specs.FileSteps.{size_of_block, block_sizes}
-use Rattle.heap_model.specs.declared.database.DbInfo.{DbInfo}
+use Rattle.pdb_files.proofs.Words.{◌≡◌, ℕ, zero, suc, ◌+◌, ◌<◌, ◌≤◌, Bool, Option, None, List, [], length, get_or, map, refl, sym, ap, subst, ◌∙◌, arith, inl, inr, All, AllZip, filter_map, length-map, get_or-map, ext_get_or, nil_from_length, u16_at, attributes_at, Distinct, seed_in, DatabaseHeader, has_resources, IsDatabaseName, header_in, resources_in, entry_count_in, entry_in, database_in, unique_ids, most_entries, HaveIds, kept_ids, blocks_in, size_of_block, block_sizes, DbInfo, BlockSizes, WholeEntry, size_of_data, data_sizes, CanCome, id_asked, CanBeWhole, header_asked, Block, size_within, header_read, IsPlannedAs, id_planned, ArePlannedOf, IsPlan, bytes_at, IsBlockWithin, Plan, numbered_zip, all_given, none_given, given_long, ids_of_records, ids_of_resources, block_count, length-blocks, size_at}
 use Rattle.laws_heap.proofs.Tests.{true_or_false}
 use Rattle.palm_store.specs.declared.entries.infos.EntryInfo.TheVariants as infos
-use Rattle.palm_store.specs.declared.databases.whole.BlockSizes.{BlockSizes}
-use Rattle.palm_store.specs.WholeDatabases.{WholeEntry, size_of_data, data_sizes, CanCome, id_asked, CanBeWhole, header_asked}
-use Rattle.pdb_format.specs.declared.blocks.Block.{Block}
-use Rattle.pdb_format.specs.Blocks.{size_within}
-use Rattle.pdb_format.specs.ReadFiles.{header_read}
-use Rattle.pdb_files.specs.Plans.{IsPlannedAs, id_planned, ArePlannedOf, IsPlan}
-use Rattle.pdb_format.specs.Blocks.{bytes_at, IsBlockWithin}
-use Rattle.pdb_files.specs.declared.importing.plan.Plan.{Plan}
-use Rattle.pdb_format.proofs.Zips.{numbered_zip, all_given, none_given}
-use Rattle.pdb_format.proofs.FileIds.{given_long, ids_of_records, ids_of_resources}
-use Rattle.pdb_format.proofs.FileBlocks.{block_count, length-blocks, size_at}
 
 -- ---- the IDs that are planned
 

@@ -1,42 +1,11 @@
 -- A database that was made whole by a plan, and whose blocks are filled, is the one that is read
 -- from the file.
-use Rattle.std.proofs.Common.{◌≡◌, ℕ, zero, suc, ◌+◌, ◌<◌, ◌≤◌, Bool, Option, Some, None, List, [], ◌∷◌, length, get_or, map, drop, refl, sym, ap, subst, ◌∙◌, arith, inl, inr}
-use Rattle.std.specs.Prelude.{All}
-use Rattle.std.specs.List.{AllZip, filter_map}
-use Rattle.std.proofs.lemmas.List.{length-map, get_or-map, ext_get_or, get_or_default}
-use Rattle.std.proofs.lemmas.List.FromFn.{length-map-range_with_len}
-use Rattle.heap_model.specs.Chunk.{data_owner}
-use Rattle.heap_model.specs.Memory.{Memory}
-use Rattle.heap_model.specs.Lists.{times}
-use Rattle.heap_model.specs.Meaning.{LiveChunk, ChunkMap}
-use Rattle.heap_model.specs.MemorySteps.{Of}
-use Rattle.heap_model.specs.Space.{Still}
-use Rattle.heap_model.specs.UniqueIds.{seed_in}
-use Rattle.heap_model.specs.Refusals.{FirstBrings}
-use Rattle.heap_model.specs.Database.{DatabaseHeader, Database, Entry, a_record, a_resource, entry_with, entry_data, data_in, name_in, header_in, resources_in, entry_count_in, entry_in, entry_offset, database_in}
-use Rattle.heap_model.specs.Store.{bytes_of, bytes_named, content, unique_id, unique_ids, most_databases, Accepted, store_of}
-use Rattle.heap_model.specs.DatabaseSteps.{IsTaken}
-use Rattle.heap_model.specs.Files.{entries_end, blocks_in, HasNoFault, HaveIds, IsReadAs}
-use Rattle.heap_model.specs.FileSteps.{size_of_block, block_sizes, whole_parts, whole_slots, IsNewData, GainsRead}
-use Rattle.heap_model.specs.StoreSteps.{StoreAsBefore, DoesInStore}
-use Rattle.heap_model.specs.declared.names.Db.{Db}
-use Rattle.heap_model.specs.declared.call.FileCall.TheVariants.{Import}
+use Rattle.pdb_files.proofs.Words.{◌≡◌, ℕ, zero, suc, ◌+◌, ◌<◌, ◌≤◌, Bool, Option, Some, None, List, [], ◌∷◌, length, get_or, map, drop, refl, sym, ap, subst, ◌∙◌, arith, inl, inr, All, AllZip, filter_map, length-map, get_or-map, ext_get_or, get_or_default, length-map-range_with_len, data_owner, Memory, times, LiveChunk, ChunkMap, Of, Still, seed_in, FirstBrings, DatabaseHeader, Database, Entry, a_record, a_resource, entry_with, entry_data, data_in, name_in, header_in, resources_in, entry_count_in, entry_in, entry_offset, database_in, bytes_of, bytes_named, content, unique_id, unique_ids, most_databases, Accepted, store_of, IsTaken, entries_end, blocks_in, HasNoFault, HaveIds, IsReadAs, size_of_block, block_sizes, whole_parts, whole_slots, IsNewData, GainsRead, StoreAsBefore, DoesInStore, Db, Import, Refusal, OutOfMemory, refused, LeavesChanged, OnlySlides, WholeEntry, data_sizes, id_asked, entries_named, whole_database, whole_size, RunsOut, IsGained, GainsZeros, MakesWhole, checks_of_whole, Plan, IsPlannedAs, IsPlan, HasBlock, zeros_for, AreFilled, Refills, zip_long, zip_at, bytes_at, Block, length-blocks}
 use Rattle.heap_model.specs.declared.call.Call.TheVariants as calls
 use Rattle.heap_model.specs.declared.call.Reply.TheVariants as replies
-use Rattle.heap_model.specs.declared.refusal.Refusal.{Refusal}
-use Rattle.heap_model.specs.declared.refusal.Refusal.TheVariants.{OutOfMemory}
-use Rattle.laws_store.proofs.CallSteps.{refused}
 use Rattle.palm_store.specs.declared.entries.infos.EntryInfo.TheVariants as infos
-use Rattle.palm_store.specs.EntryCalls.{LeavesChanged, OnlySlides}
-use Rattle.palm_store.specs.WholeDatabases.{WholeEntry, data_sizes, id_asked, entry_named, entries_named, whole_database, whole_size, RunsOut, IsGained, GainsZeros, MakesWhole, checks_of_whole}
+use Rattle.palm_store.specs.WholeDatabases.{entry_named}
 use Rattle.palm_store.proofs.WholeSteps.{whole_data}
-use Rattle.pdb_files.specs.declared.importing.plan.Plan.{Plan}
-use Rattle.pdb_files.specs.Plans.{IsPlannedAs, IsPlan}
-use Rattle.pdb_files.specs.Filling.{HasBlock, zeros_for, AreFilled, Refills}
-use Rattle.pdb_format.proofs.Zips.{zip_long, zip_at}
-use Rattle.pdb_format.specs.Blocks.{bytes_at}
-use Rattle.pdb_format.specs.declared.blocks.Block.{Block}
-use Rattle.pdb_format.proofs.FileBlocks.{length-blocks}
 use Rattle.pdb_files.proofs.Plans.{kind_planned}
 use Rattle.pdb_files.proofs.Refusals.{behind_front, good_brings, good_none}
 

@@ -1,34 +1,9 @@
 -- The refusals of the call: a fault of the file, a name that is taken, and too many databases.
-use Rattle.std.proofs.Common.{◌≡◌, ◌≢◌, ℕ, ◌≤◌, ◌++◌, true, false, Result, Ok, Err, Option, Some, None, List, [], ◌∷◌, length, refl, sym, ap, subst, ◌∙◌, arith, inl, inr}
-use Rattle.std.specs.Prelude.{All, is_ok}
-use Rattle.std.specs.Option.{is_some}
-use Rattle.std.proofs.lemmas.Option.{slice_get_within, get_or_from_slice_get}
-use Rattle.std.proofs.lemmas.List.Elements.{All-head, All-tail}
-use Rattle.heap_model.specs.Memory.{Memory}
-use Rattle.heap_model.specs.Refusals.{Check, ◌brings◌, NoneHolds, FirstBrings}
-use Rattle.heap_model.specs.MemorySteps.{reply_of}
-use Rattle.heap_model.specs.Database.{name_in}
-use Rattle.heap_model.specs.Store.{StoredDatabase, most_databases, store_of}
-use Rattle.heap_model.specs.StoreWords.{OfDatabase, with_number, may_run_out}
-use Rattle.heap_model.specs.DatabaseSteps.{IsTaken, taken}
-use Rattle.heap_model.specs.Files.{entries_end, HasFault, file_faults, HasNoFault, IsFirstFault}
-use Rattle.heap_model.specs.FileSteps.{whole_parts, whole_slots, fault_checks, block_sizes, no_memory}
-use Rattle.heap_model.specs.StoreSteps.{DoesInStore, row_of}
-use Rattle.heap_model.specs.declared.names.Db.{Db}
-use Rattle.heap_model.specs.declared.database.DbInfo.{DbInfo}
+use Rattle.pdb_files.proofs.Words.{◌≡◌, ◌≢◌, ℕ, ◌≤◌, ◌++◌, true, false, Result, Ok, Err, Option, Some, None, List, [], ◌∷◌, length, refl, sym, ap, subst, ◌∙◌, arith, inl, inr, All, is_ok, is_some, slice_get_within, get_or_from_slice_get, All-head, All-tail, Memory, Check, ◌brings◌, NoneHolds, FirstBrings, reply_of, name_in, StoredDatabase, most_databases, store_of, OfDatabase, with_number, may_run_out, IsTaken, taken, entries_end, HasFault, file_faults, HasNoFault, IsFirstFault, whole_parts, whole_slots, fault_checks, block_sizes, no_memory, DoesInStore, row_of, Db, DbInfo, Import, Refusal, BadFile, TooManyEntries, OutOfMemory, number_some, map-All, found_stands, BlockSizes, WholeEntry, checks_of_whole, checks_in_front}
 use Rattle.heap_model.specs.declared.file_fault.FileFault.{FileFault}
 use Rattle.heap_model.specs.declared.call.DatabaseCall.TheVariants.{Find, Count}
-use Rattle.heap_model.specs.declared.call.FileCall.TheVariants.{Import}
 use Rattle.heap_model.specs.declared.call.Call.TheVariants as calls
 use Rattle.heap_model.specs.declared.call.Reply.TheVariants as replies
-use Rattle.heap_model.specs.declared.refusal.Refusal.{Refusal}
-use Rattle.heap_model.specs.declared.refusal.Refusal.TheVariants.{BadFile, TooManyEntries, OutOfMemory}
-use Rattle.laws_store.proofs.Numbered.{number_some}
-use Rattle.laws_store.proofs.Times.{map-All}
-use Rattle.laws_store.proofs.Found.{found_stands}
-use Rattle.palm_store.specs.declared.databases.whole.BlockSizes.{BlockSizes}
-use Rattle.palm_store.specs.WholeDatabases.{WholeEntry, checks_of_whole}
-use Rattle.pdb_files.specs.Imports.{checks_in_front}
 
 -- ---- faults
 

@@ -1,9 +1,4 @@
-use Rattle.std.proofs.Common.{◌≡◌, ◌<◌, ◌+◌, ◌-◌, ◌/◌, ◌∙◌, ℕ, length, get_or, set, ap, sym, inl, inr, arith}
-use Rattle.std.specs.Prelude.{slice_index}
-use Rattle.std.proofs.lemmas.Bool.{cases_eq}
-use Rattle.std.proofs.lemmas.List.{get_or-set_same, get_or-set_other}
-use Rattle.heap_map.specs.Cells.{in_cell}
-use Rattle.heap_map.proofs.CellLaws.{cells_order, cells_within, cell_counted}
+use Rattle.heap_map.proofs.Laws.{◌≡◌, ◌<◌, ◌+◌, ◌-◌, ◌/◌, ◌∙◌, ℕ, length, get_or, set, ap, sym, inl, inr, arith, slice_index, cases_eq, get_or-set_same, get_or-set_other, in_cell, cells_order, cells_within, cell_counted}
 use Rattle.heap_map.proofs.cells.count_bytes.Goals as goal
 
 pub loop-k-preserved : goal.loop-k-preserved

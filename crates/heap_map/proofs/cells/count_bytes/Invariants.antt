@@ -1,6 +1,4 @@
-use Rattle.std.proofs.Common.{◌≡◌, ◌+◌, ◌<◌, ◌≤◌, ℕ}
-use Rattle.std.specs.Prelude.{◌⊎◌, slice_index}
-use Rattle.heap_map.specs.Cells.{in_cell}
+use Rattle.heap_map.proofs.Words.{◌≡◌, ◌+◌, ◌<◌, ◌≤◌, ℕ, ◌⊎◌, slice_index, in_cell}
 use Rattle.heap_map.proofs.cells.count_bytes.Given as goal
 
 abbrev pub invariant-loop-k : goal.invariant-loop-k

@@ -1,5 +1,4 @@
-use Rattle.std.proofs.Common.{◌≡◌, ◌<◌, ◌≤◌, ℕ}
-use Rattle.std.specs.Prelude.{◌⊎◌, min, slice_index}
+use Rattle.heap_map.proofs.Words.{◌≡◌, ◌<◌, ◌≤◌, ℕ, ◌⊎◌, min, slice_index}
 use Rattle.heap_map.proofs.cells.lower.Given as goal
 
 abbrev pub invariant-loop-k : goal.invariant-loop-k

@@ -1,6 +1,4 @@
-use Rattle.std.proofs.Common.{arith}
-use Rattle.std.specs.Prelude.{slice_index}
-use Rattle.heap_map.proofs.CellLaws.{cells_order, cells_within, cell_marked}
+use Rattle.heap_map.proofs.Laws.{arith, slice_index, cells_order, cells_within, cell_marked}
 use Rattle.heap_map.proofs.cells.mark_bytes.Goals as goal
 
 pub lower-requires : goal.lower-requires

@@ -1,8 +1,4 @@
-use Rattle.std.proofs.Common.{◌≡◌, ◌<◌, ◌-◌, ◌*◌, ◌∙◌, ℕ, List, length, get_or, ap, arith}
-use Rattle.std.specs.Prelude.{min}
-use Rattle.heap_model.specs.Reading.{chunks_of}
-use Rattle.heap_map.specs.Cells.{area_size, first_mark, free_within}
-use Rattle.heap_map.proofs.CellLaws.{mark_is, free_total_most, marks_more, marks_all}
+use Rattle.heap_map.proofs.Laws.{◌≡◌, ◌<◌, ◌-◌, ◌*◌, ◌∙◌, ℕ, List, length, get_or, ap, arith, min, chunks_of, area_size, first_mark, free_within, mark_is, free_total_most, marks_more, marks_all}
 use Rattle.heap_map.proofs.cells.marks_of.Goals as goal
 
 pub cell_byte-requires : goal.cell_byte-requires

@@ -1,8 +1,4 @@
-use Rattle.std.proofs.Common.{◌≡◌, ◌-◌, ◌*◌, ◌≤◌, ◌∙◌, ℕ, ◌+◌, length, ap, subst, sym, arith, rules}
-use Rattle.laws_heap.proofs.FoundChunks.{read_heap}
-use Rattle.heap_check.proofs.WalkLaws.{HasPassed, passed_none, passed_there, passed_size, passed_all}
-use Rattle.heap_map.specs.Cells.{HoldChunks}
-use Rattle.heap_map.proofs.CellLaws.{hold_none, hold_step, hold_start, header_room, free_few}
+use Rattle.heap_map.proofs.Laws.{◌≡◌, ◌-◌, ◌*◌, ◌≤◌, ◌∙◌, ℕ, ◌+◌, length, ap, subst, sym, arith, rules, read_heap, HasPassed, passed_none, passed_there, passed_size, passed_all, HoldChunks, hold_none, hold_step, hold_start, header_room, free_few}
 use Rattle.heap_map.proofs.cells.paint.Goals as goal
 
 pub loop-at-init : goal.loop-at-init

@@ -1,6 +1,4 @@
-use Rattle.std.proofs.Common.{◌≡◌, ◌-◌, length}
-use Rattle.heap_check.proofs.WalkLaws.{HasPassed}
-use Rattle.heap_map.specs.Cells.{HoldChunks}
+use Rattle.heap_map.proofs.Words.{◌≡◌, ◌-◌, length, HasPassed, HoldChunks}
 use Rattle.heap_map.proofs.cells.paint.Given as goal
 
 abbrev pub invariant-loop-at : goal.invariant-loop-at

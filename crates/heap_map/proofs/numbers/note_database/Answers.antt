@@ -1,9 +1,5 @@
-use Rattle.std.proofs.Common.{◌≡◌, ◌∷◌, ◌∙◌, [], ℕ, List, map, length, ap, subst, arith}
-use Rattle.heap_model.specs.Database.{entry_data, entry_in}
-use Rattle.heap_model.specs.Lists.{numbered}
+use Rattle.heap_map.proofs.Laws.{◌≡◌, ◌∷◌, ◌∙◌, [], ℕ, List, map, length, ap, subst, arith, entry_data, entry_in, numbered, NotesSlots, notes_then}
 use Rattle.store_check.proofs.UseLaws.{entries_more, entries_all, data_all}
-use Rattle.heap_map.specs.Numbers.{NotesSlots}
-use Rattle.heap_map.proofs.NumberLaws.{notes_then}
 use Rattle.heap_map.proofs.numbers.note_database.Goals as goal
 
 pub loop-index-preserved : goal.loop-index-preserved

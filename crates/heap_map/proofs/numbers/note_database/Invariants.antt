@@ -1,7 +1,4 @@
-use Rattle.std.proofs.Common.{map}
-use Rattle.heap_model.specs.Lists.{numbered}
-use Rattle.heap_model.specs.Database.{entry_data, entry_in}
-use Rattle.heap_map.specs.Numbers.{NotesSlots}
+use Rattle.heap_map.proofs.Words.{map, numbered, entry_data, entry_in, NotesSlots}
 use Rattle.heap_map.proofs.numbers.note_database.Given as goal
 
 abbrev pub invariant-loop-index : goal.invariant-loop-index

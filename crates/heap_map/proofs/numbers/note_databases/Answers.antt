@@ -1,9 +1,4 @@
-use Rattle.std.proofs.Common.{◌≡◌, ◌≤◌, length, ap, sym, subst, arith}
-use Rattle.heap_model.specs.Store.{directory_bytes}
-use Rattle.db_format.specs.Headers.{AreWholeBytes}
-use Rattle.store_check.specs.Listing.{listed_count}
-use Rattle.heap_map.proofs.ReadingLaws.{header_whole}
-use Rattle.heap_map.proofs.NumberLaws.{few_listed, numbers_all}
+use Rattle.heap_map.proofs.Laws.{◌≡◌, ◌≤◌, length, ap, sym, subst, arith, directory_bytes, AreWholeBytes, listed_count, header_whole, few_listed, numbers_all}
 use Rattle.heap_map.proofs.numbers.note_databases.Goals as goal
 
 pub overflow_cast-db : goal.overflow_cast-db

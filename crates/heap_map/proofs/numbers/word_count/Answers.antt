@@ -1,6 +1,4 @@
-use Rattle.std.proofs.Common.{◌≡◌, ◌/◌, length, sym, arith}
-use Rattle.laws_heap.proofs.Lending.{all_within}
-use Rattle.store_check.proofs.SlotWords.{chained_words, chained_room, plain_room}
+use Rattle.heap_map.proofs.Words.{◌≡◌, ◌/◌, length, sym, arith, all_within, chained_words, chained_room, plain_room}
 use Rattle.heap_map.proofs.numbers.word_count.Goals as goal
 
 pub returns-then-is_chained-clause-room : goal.returns-then-is_chained-clause-room

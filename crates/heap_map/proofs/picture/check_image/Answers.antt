@@ -1,6 +1,4 @@
-use Rattle.std.proofs.Common.{sym, ◌∙◌, subst}
-use Rattle.heap_map.specs.Pictures.{IsMapFault}
-use Rattle.heap_map.proofs.FaultLaws.{fault_of, never_write, short_fault}
+use Rattle.heap_map.proofs.Laws.{sym, ◌∙◌, subst, IsMapFault, fault_of, never_write, short_fault}
 use Rattle.heap_map.proofs.picture.check_image.Goals as goal
 
 pub returns-in-Err-clause-why : goal.returns-in-Err-clause-why

@@ -1,10 +1,4 @@
-use Rattle.std.proofs.Common.{◌≡◌, ◌*◌, ℕ, true, false, length, sym, ap, subst, ◌∙◌, arith, rules}
-use Rattle.std.specs.Prelude.{is_ok}
-use Rattle.palm_text.specs.Counted.{Writes}
-use Rattle.heap_map.specs.Text.{map_body, map_text, head_line, row_lines, tail_lines}
-use Rattle.heap_model.specs.Slots.{area_start}
-use Rattle.heap_map.specs.Cells.{cell_size, cell_count, marks}
-use Rattle.heap_map.proofs.CellLaws.{length-marks, cell_starts, few_cells}
+use Rattle.heap_map.proofs.Laws.{◌≡◌, ◌*◌, ℕ, true, false, length, sym, ap, subst, ◌∙◌, arith, rules, is_ok, Writes, map_body, map_text, head_line, row_lines, tail_lines, area_start, cell_size, cell_count, marks, length-marks, cell_starts, few_cells}
 use Rattle.heap_map.proofs.MoreParts.{then_stops}
 use Rattle.heap_map.proofs.picture.put_lines.Goals as goal
 

@@ -1,8 +1,4 @@
-use Rattle.std.proofs.Common.{ℕ, ◌+◌, subst, sym, arith}
-use Rattle.heap_model.specs.Reading.{chunks_of}
-use Rattle.laws_heap.proofs.FoundChunks.{read_heap}
-use Rattle.heap_check.proofs.WalkLaws.{HasPassed, passed_there, passed_size, passed_all}
-use Rattle.heap_map.proofs.PieceLaws.{HaveMet, met_start, met_small, met_step, free_size_by, all_met_count, all_met_largest}
+use Rattle.heap_map.proofs.Laws.{ℕ, ◌+◌, subst, sym, arith, chunks_of, read_heap, HasPassed, passed_there, passed_size, passed_all, HaveMet, met_start, met_small, met_step, free_size_by, all_met_count, all_met_largest}
 use Rattle.heap_map.proofs.pieces.free_pieces.Goals as goal
 
 pub loop-at-init : goal.loop-at-init

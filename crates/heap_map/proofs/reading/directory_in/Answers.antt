@@ -1,5 +1,4 @@
-use Rattle.std.proofs.Common.{◌∙◌, sym}
-use Rattle.store_check.proofs.LookupLaws.{no_directory, some_directory, the_directory}
+use Rattle.heap_map.proofs.Words.{◌∙◌, sym, no_directory, some_directory, the_directory}
 use Rattle.heap_map.proofs.reading.directory_in.Goals as goal
 
 pub managers_bytes-requires-clause-managers : goal.managers_bytes-requires-clause-managers

@@ -1,7 +1,5 @@
-use Rattle.std.proofs.Common.{◌∙◌, ◌*◌}
+use Rattle.heap_map.proofs.Laws.{◌∙◌, ◌*◌, word_listed, header_owner, header_bytes}
 use Rattle.db_format.proofs.WordLaws.{u32_at_part}
-use Rattle.store_check.proofs.LookupLaws.{word_listed}
-use Rattle.heap_map.proofs.ReadingLaws.{header_owner, header_bytes}
 use Rattle.heap_map.proofs.reading.header_in.Goals as goal
 
 pub managers_bytes-requires-clause-managers : goal.managers_bytes-requires-clause-managers

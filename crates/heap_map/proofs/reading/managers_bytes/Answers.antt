@@ -1,10 +1,6 @@
-use Rattle.std.proofs.Common.{◌+◌, ◌∙◌, ℕ, inl, ap, arith}
-use Rattle.std.specs.Prelude.{slice_range}
-use Rattle.laws_heap.proofs.Lending.{all_within}
+use Rattle.heap_map.proofs.Laws.{◌+◌, ◌∙◌, ℕ, inl, ap, arith, slice_range, all_within, managers_held, live_is, live_there, bytes_there}
 use Rattle.laws_heap.proofs.Slots.{tiled_table, whole_table}
 use Rattle.laws_store.proofs.Owners.{owned_slot}
-use Rattle.store_check.proofs.LookupLaws.{managers_held}
-use Rattle.heap_map.proofs.ReadingLaws.{live_is, live_there, bytes_there}
 use Rattle.heap_map.proofs.reading.managers_bytes.Goals as goal
 
 pub word_of-place-requires-clause-table : goal.word_of-place-requires-clause-table

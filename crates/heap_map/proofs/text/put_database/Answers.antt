@@ -1,8 +1,4 @@
-use Rattle.std.proofs.Common.{◌++◌, ◌∷◌, [], ℕ, subst}
-use Rattle.std.specs.Prelude.{is_ok}
-use Rattle.palm_text.specs.Counted.{Writes}
-use Rattle.palm_text.proofs.Parts.{then}
-use Rattle.heap_map.specs.Text.{map_database_line, name_and_count}
+use Rattle.heap_map.proofs.Words.{◌++◌, ◌∷◌, [], ℕ, subst, is_ok, Writes, then, map_database_line, name_and_count}
 use Rattle.heap_map.proofs.text.put_database.Goals as goal
 
 pub returns : goal.returns

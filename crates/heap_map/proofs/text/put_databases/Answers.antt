@@ -1,13 +1,4 @@
-use Rattle.std.proofs.Common.{◌≡◌, ◌+◌, ◌<◌, ◌≤◌, List, ℕ, true, false, length, ap, sym, subst, arith}
-use Rattle.heap_model.specs.Store.{directory_bytes}
-use Rattle.db_format.specs.Headers.{AreWholeBytes}
-use Rattle.store_check.specs.Listing.{listed_count}
-use Rattle.palm_text.specs.Counted.{Writes}
-use Rattle.palm_text.proofs.Parts.{then, stops, nothing}
-use Rattle.heap_map.specs.Text.{map_database_line, database_line, database_lines}
-use Rattle.heap_map.proofs.LineLaws.{rest_lines, line_here, none_left}
-use Rattle.heap_map.proofs.ReadingLaws.{header_whole}
-use Rattle.heap_map.proofs.NumberLaws.{few_listed}
+use Rattle.heap_map.proofs.Laws.{◌≡◌, ◌+◌, ◌<◌, ◌≤◌, List, ℕ, true, false, length, ap, sym, subst, arith, directory_bytes, AreWholeBytes, listed_count, Writes, then, stops, nothing, map_database_line, database_line, database_lines, rest_lines, line_here, none_left, header_whole, few_listed}
 use Rattle.heap_map.proofs.text.put_databases.Goals as goal
 
 pub loop-db-init : goal.loop-db-init

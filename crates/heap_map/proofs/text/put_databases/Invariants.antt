@@ -1,8 +1,4 @@
-use Rattle.std.proofs.Common.{Bool}
-use Rattle.palm_text.specs.Counted.{Writing, Writes}
-use Rattle.store_check.specs.Listing.{listed_count}
-use Rattle.heap_map.specs.Text.{database_line, database_lines}
-use Rattle.heap_map.proofs.LineLaws.{rest_lines}
+use Rattle.heap_map.proofs.Laws.{Bool, Writing, Writes, listed_count, database_line, database_lines, rest_lines}
 use Rattle.heap_map.proofs.text.put_databases.Given as goal
 
 -- whatever is written from here on completes the lines

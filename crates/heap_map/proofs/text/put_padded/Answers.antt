@@ -1,8 +1,4 @@
-use Rattle.std.proofs.Common.{◌∙◌, List, ℕ, false, subst}
-use Rattle.std.specs.Prelude.{is_ok}
-use Rattle.palm_text.specs.Counted.{Writes}
-use Rattle.palm_text.proofs.Parts.{then, stops}
-use Rattle.heap_map.proofs.LineLaws.{padded_is}
+use Rattle.heap_map.proofs.Laws.{◌∙◌, List, ℕ, false, subst, is_ok, Writes, then, stops, padded_is}
 use Rattle.heap_map.proofs.text.put_padded.Goals as goal
 
 pub returns-in-Ok : goal.returns-in-Ok

@@ -1,9 +1,4 @@
-use Rattle.std.proofs.Common.{◌+◌, ◌*◌, ◌<◌, ◌≤◌, List, ℕ, true, false, length, sym, subst, arith}
-use Rattle.std.specs.Prelude.{slice_range}
-use Rattle.palm_text.specs.Counted.{Writes}
-use Rattle.palm_text.proofs.Parts.{then, stops, nothing}
-use Rattle.heap_map.specs.Text.{row_text, row_line, row_count, row_lines}
-use Rattle.heap_map.proofs.LineLaws.{rest_lines, line_here, none_left}
+use Rattle.heap_map.proofs.Laws.{◌+◌, ◌*◌, ◌<◌, ◌≤◌, List, ℕ, true, false, length, sym, subst, arith, slice_range, Writes, then, stops, nothing, row_text, row_line, row_count, row_lines, rest_lines, line_here, none_left}
 use Rattle.heap_map.proofs.text.put_rows.Goals as goal
 
 pub loop-row-init : goal.loop-row-init

@@ -1,7 +1,4 @@
-use Rattle.std.proofs.Common.{Bool, length}
-use Rattle.palm_text.specs.Counted.{Writing, Writes}
-use Rattle.heap_map.specs.Text.{row_line, row_count, row_lines}
-use Rattle.heap_map.proofs.LineLaws.{rest_lines}
+use Rattle.heap_map.proofs.Laws.{Bool, length, Writing, Writes, row_line, row_count, row_lines, rest_lines}
 use Rattle.heap_map.proofs.text.put_rows.Given as goal
 
 -- whatever is written from here on completes the rows

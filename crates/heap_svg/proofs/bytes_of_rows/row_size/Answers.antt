@@ -1,5 +1,4 @@
-use Rattle.std.proofs.Common.{◌≡◌, ◌*◌, suc, refl, arith}
-use Rattle.heap_svg.specs.Rows.{doubled}
+use Rattle.heap_svg.proofs.Words.{◌≡◌, ◌*◌, suc, refl, arith, doubled}
 use Rattle.heap_svg.proofs.bytes_of_rows.row_size.Goals as goal
 
 pub loop-line-init : goal.loop-line-init

@@ -1,5 +1,4 @@
-use Rattle.std.proofs.Common.{◌≡◌, ◌≤◌, ◌<◌, ◌*◌, ◌-◌, ℕ}
-use Rattle.heap_svg.specs.Rows.{doubled}
+use Rattle.heap_svg.proofs.Words.{◌≡◌, ◌≤◌, ◌<◌, ◌*◌, ◌-◌, ℕ, doubled}
 use Rattle.heap_svg.proofs.bytes_of_rows.row_size.Given as goal
 
 abbrev pub invariant-loop-line : goal.invariant-loop-line

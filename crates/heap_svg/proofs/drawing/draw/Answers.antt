@@ -1,6 +1,4 @@
-use Rattle.std.proofs.Common.{ℕ, length, ap, ◌∙◌, subst, arith}
-use Rattle.heap_svg.specs.Rows.{IsRowSize, rows_in}
-use Rattle.heap_svg.proofs.RowLaws.{row_low, row_small}
+use Rattle.heap_svg.proofs.Laws.{ℕ, length, ap, ◌∙◌, subst, arith, IsRowSize, rows_in, row_low, row_small}
 use Rattle.heap_svg.proofs.drawing.draw.Goals as goal
 
 pub row_size-line-requires : goal.row_size-line-requires

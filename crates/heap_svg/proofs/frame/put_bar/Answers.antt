@@ -1,7 +1,4 @@
-use Rattle.std.proofs.Common.{◌+◌, ◌-◌, ℕ, is_ok, subst}
-use Rattle.palm_text.specs.Counted.{Writes}
-use Rattle.palm_text.proofs.Parts.{then}
-use Rattle.heap_svg.specs.Drawing.{bar_open, bar_parts, bar_text}
+use Rattle.heap_svg.proofs.Words.{◌+◌, ◌-◌, ℕ, is_ok, subst, Writes, then, bar_open, bar_parts, bar_text}
 use Rattle.heap_svg.proofs.frame.put_bar.Goals as goal
 
 pub returns : goal.returns

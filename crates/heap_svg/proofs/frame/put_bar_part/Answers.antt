@@ -1,7 +1,4 @@
-use Rattle.std.proofs.Common.{ℕ, ◌++◌, is_ok, subst, codes}
-use Rattle.std.specs.Prelude.{decimal}
-use Rattle.palm_text.specs.Counted.{Writes}
-use Rattle.heap_svg.specs.Drawing.{bar_part}
+use Rattle.heap_svg.proofs.Words.{ℕ, ◌++◌, is_ok, subst, codes, decimal, Writes, bar_part}
 use Rattle.heap_svg.proofs.frame.put_bar_part.Goals as goal
 
 pub returns : goal.returns

@@ -1,7 +1,4 @@
-use Rattle.std.proofs.Common.{◌++◌, is_ok, false, codes}
-use Rattle.palm_text.proofs.Parts.{then, stops}
-use Rattle.heap_svg.specs.Drawing.{bar_part, bar_parts}
-use Rattle.heap_svg.proofs.ChainLaws.{fails}
+use Rattle.heap_svg.proofs.Laws.{◌++◌, is_ok, false, codes, then, stops, bar_part, bar_parts, fails}
 use Rattle.heap_svg.proofs.frame.put_bar_parts.Goals as goal
 
 pub returns-in_err-put_bar_part : goal.returns-in_err-put_bar_part

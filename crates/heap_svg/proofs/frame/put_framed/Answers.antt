@@ -1,8 +1,4 @@
-use Rattle.std.proofs.Common.{◌++◌, is_ok, false, codes}
-use Rattle.palm_text.proofs.Parts.{then, stops}
-use Rattle.heap_svg.specs.Drawing.{frame_text, framed_text}
-use Rattle.heap_svg.specs.Rows.{labels_text, strips_text}
-use Rattle.heap_svg.proofs.ChainLaws.{fails}
+use Rattle.heap_svg.proofs.Laws.{◌++◌, is_ok, false, codes, then, stops, frame_text, framed_text, labels_text, strips_text, fails}
 use Rattle.heap_svg.proofs.frame.put_framed.Goals as goal
 
 pub returns-in_err-put_strips : goal.returns-in_err-put_strips

@@ -1,11 +1,5 @@
-use Rattle.std.proofs.Common.{◌≡◌, ◌+◌, ◌<◌, ◌≤◌, List, ℕ, true, false, length, ap, sym, subst, arith}
-use Rattle.heap_model.specs.Store.{directory_bytes}
+use Rattle.heap_svg.proofs.Words.{◌≡◌, ◌+◌, ◌<◌, ◌≤◌, List, ℕ, true, false, length, ap, sym, subst, arith, directory_bytes, listed_count, Writes, then, stops, nothing, database_note, database_at, databases_note, rest_lines, line_here, none_left}
 use Rattle.db_format.specs.Headers.{AreWholeBytes}
-use Rattle.store_check.specs.Listing.{listed_count}
-use Rattle.palm_text.specs.Counted.{Writes}
-use Rattle.palm_text.proofs.Parts.{then, stops, nothing}
-use Rattle.heap_svg.specs.Legend.{database_note, database_at, databases_note}
-use Rattle.heap_map.proofs.LineLaws.{rest_lines, line_here, none_left}
 use Rattle.heap_map.proofs.ReadingLaws.{header_whole}
 use Rattle.heap_map.proofs.NumberLaws.{few_listed}
 use Rattle.heap_svg.proofs.legend.put_databases_note.Goals as goal

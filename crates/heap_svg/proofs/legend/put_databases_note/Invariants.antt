@@ -1,8 +1,4 @@
-use Rattle.std.proofs.Common.{Bool}
-use Rattle.palm_text.specs.Counted.{Writing, Writes}
-use Rattle.store_check.specs.Listing.{listed_count}
-use Rattle.heap_svg.specs.Legend.{database_at, databases_note}
-use Rattle.heap_map.proofs.LineLaws.{rest_lines}
+use Rattle.heap_svg.proofs.Words.{Bool, Writing, Writes, listed_count, database_at, databases_note, rest_lines}
 use Rattle.heap_svg.proofs.legend.put_databases_note.Given as goal
 
 -- whatever is written from here on completes the lines

@@ -1,7 +1,4 @@
-use Rattle.std.proofs.Common.{Bool, drop}
-use Rattle.std.specs.List.{flat_map}
-use Rattle.palm_text.specs.Counted.{Writing, Writes}
-use Rattle.heap_svg.specs.Legend.{escaped_byte, escaped}
+use Rattle.heap_svg.proofs.Words.{Bool, drop, flat_map, Writing, Writes, escaped_byte, escaped}
 use Rattle.heap_svg.proofs.legend.put_escaped.Given as goal
 
 -- whatever is written from here on completes the name

@@ -1,8 +1,5 @@
-use Rattle.std.proofs.Common.{◌++◌, ◌∷◌, [], ℕ, false, subst}
+use Rattle.heap_svg.proofs.Words.{◌++◌, ◌∷◌, [], ℕ, false, subst, Writes, then, stops, letter_note, entries_note}
 use Rattle.std.specs.Prelude.{is_ok}
-use Rattle.palm_text.specs.Counted.{Writes}
-use Rattle.palm_text.proofs.Parts.{then, stops}
-use Rattle.heap_svg.specs.Legend.{letter_note, entries_note}
 use Rattle.heap_svg.proofs.legend.put_letter_note.Goals as goal
 
 pub returns-in-Ok : goal.returns-in-Ok

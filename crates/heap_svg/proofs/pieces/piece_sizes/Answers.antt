@@ -1,8 +1,4 @@
-use Rattle.std.proofs.Common.{ℕ, ◌+◌, subst, sym, arith}
-use Rattle.laws_heap.proofs.FoundChunks.{read_heap}
-use Rattle.heap_check.proofs.WalkLaws.{HasPassed, passed_there, passed_size, passed_all}
-use Rattle.heap_map.proofs.PieceLaws.{free_size_by}
-use Rattle.heap_svg.proofs.PieceLaws.{HaveSizes, sizes_start, sizes_small, sizes_step, sizes_end}
+use Rattle.heap_svg.proofs.Laws.{ℕ, ◌+◌, subst, sym, arith, read_heap, HasPassed, passed_there, passed_size, passed_all, free_size_by, HaveSizes, sizes_start, sizes_small, sizes_step, sizes_end}
 use Rattle.heap_svg.proofs.pieces.piece_sizes.Goals as goal
 
 pub loop-at-init : goal.loop-at-init

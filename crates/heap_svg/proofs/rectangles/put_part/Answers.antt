@@ -1,9 +1,6 @@
-use Rattle.std.proofs.Common.{◌≡◌, ◌+◌, ◌-◌, ◌*◌, List, ℕ, true, false, ap, ◌∙◌, subst, arith}
+use Rattle.heap_svg.proofs.Words.{◌≡◌, ◌+◌, ◌-◌, ◌*◌, List, ℕ, true, false, ap, ◌∙◌, subst, arith, Writes, then, stops, rect_text, title_text, strip_row}
 use Rattle.std.specs.Prelude.{is_ok}
-use Rattle.palm_text.specs.Counted.{Writes}
-use Rattle.palm_text.proofs.Parts.{then, stops}
 use Rattle.heap_map.specs.Cells.{in_cell}
-use Rattle.heap_svg.specs.Rows.{rect_text, title_text, strip_row}
 use Rattle.heap_svg.proofs.rectangles.put_part.Goals as goal
 
 pub returns-in-Ok : goal.returns-in-Ok

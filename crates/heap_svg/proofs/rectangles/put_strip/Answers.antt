@@ -1,9 +1,4 @@
-use Rattle.std.proofs.Common.{◌+◌, ◌<◌, ◌≤◌, List, ℕ, true, false, sym, subst, arith}
-use Rattle.palm_text.specs.Counted.{Writes}
-use Rattle.palm_text.proofs.Parts.{then, stops, nothing}
-use Rattle.heap_svg.specs.Rows.{first_row, strip_rows, strip_part, strip_text}
-use Rattle.heap_map.proofs.LineLaws.{rest_lines, line_here, none_left}
-use Rattle.heap_svg.proofs.RowLaws.{row_starts, row_few}
+use Rattle.heap_svg.proofs.Laws.{◌+◌, ◌<◌, ◌≤◌, List, ℕ, true, false, sym, subst, arith, Writes, then, stops, nothing, first_row, strip_rows, strip_part, strip_text, rest_lines, line_here, none_left, row_starts, row_few}
 use Rattle.heap_svg.proofs.rectangles.put_strip.Goals as goal
 
 pub loop-i-init : goal.loop-i-init

@@ -1,7 +1,4 @@
-use Rattle.std.proofs.Common.{Bool}
-use Rattle.palm_text.specs.Counted.{Writing, Writes}
-use Rattle.heap_svg.specs.Rows.{strip_part, strip_rows, strip_text}
-use Rattle.heap_map.proofs.LineLaws.{rest_lines}
+use Rattle.heap_svg.proofs.Words.{Bool, Writing, Writes, strip_part, strip_rows, strip_text, rest_lines}
 use Rattle.heap_svg.proofs.rectangles.put_strip.Given as goal
 
 -- whatever is written from here on completes the strip

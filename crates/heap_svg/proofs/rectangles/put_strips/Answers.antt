@@ -1,10 +1,4 @@
-use Rattle.std.proofs.Common.{◌<◌, ◌≤◌, ◌+◌, List, ℕ, true, false, length, drop, get_or, sym, subst, ap, arith}
-use Rattle.std.specs.List.{flat_map}
-use Rattle.std.proofs.lemmas.List.{drop_all}
-use Rattle.palm_text.specs.Counted.{Writes}
-use Rattle.palm_text.proofs.Parts.{then, stops, nothing}
-use Rattle.heap_svg.specs.Rows.{strip_text, strips_text}
-use Rattle.heap_svg.proofs.RowLaws.{part_here}
+use Rattle.heap_svg.proofs.Laws.{◌<◌, ◌≤◌, ◌+◌, List, ℕ, true, false, length, drop, get_or, sym, subst, ap, arith, flat_map, drop_all, Writes, then, stops, nothing, strip_text, strips_text, part_here}
 use Rattle.heap_svg.proofs.rectangles.put_strips.Goals as goal
 
 pub loop-strip-init : goal.loop-strip-init

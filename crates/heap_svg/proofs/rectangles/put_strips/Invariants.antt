@@ -1,7 +1,4 @@
-use Rattle.std.proofs.Common.{Bool, drop}
-use Rattle.std.specs.List.{flat_map}
-use Rattle.palm_text.specs.Counted.{Writing, Writes}
-use Rattle.heap_svg.specs.Rows.{strip_text, strips_text}
+use Rattle.heap_svg.proofs.Words.{Bool, drop, flat_map, Writing, Writes, strip_text, strips_text}
 use Rattle.heap_svg.proofs.rectangles.put_strips.Given as goal
 
 -- whatever is written from here on completes the strips

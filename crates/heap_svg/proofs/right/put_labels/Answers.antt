@@ -1,9 +1,4 @@
-use Rattle.std.proofs.Common.{◌+◌, ◌<◌, ◌≤◌, List, ℕ, true, false, sym, subst, arith}
-use Rattle.std.proofs.Math.Nat.{mul-le-mul_left}
-use Rattle.palm_text.specs.Counted.{Writes}
-use Rattle.palm_text.proofs.Parts.{then, stops, nothing}
-use Rattle.heap_svg.specs.Rows.{label_text, labels_text}
-use Rattle.heap_map.proofs.LineLaws.{rest_lines, line_here, none_left}
+use Rattle.heap_svg.proofs.Words.{◌+◌, ◌<◌, ◌≤◌, List, ℕ, true, false, sym, subst, arith, mul-le-mul_left, Writes, then, stops, nothing, label_text, labels_text, rest_lines, line_here, none_left}
 use Rattle.heap_svg.proofs.right.put_labels.Goals as goal
 
 pub loop-row-init : goal.loop-row-init

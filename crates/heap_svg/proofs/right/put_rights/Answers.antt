@@ -1,10 +1,4 @@
-use Rattle.std.proofs.Common.{◌≡◌, ◌∙◌, ap, length, ◌+◌, ◌<◌, ◌≤◌, List, ℕ, true, false, sym, subst, arith}
-use Rattle.palm_text.specs.Counted.{Writes}
-use Rattle.palm_text.proofs.Parts.{then, stops, nothing}
-use Rattle.heap_map.proofs.LineLaws.{rest_lines, line_here, none_left}
-use Rattle.heap_model.specs.Space.{greatest}
-use Rattle.heap_svg.specs.declared.rooms.Room.{Room}
-use Rattle.heap_svg.specs.Rows.{right_of, right_text, rights_text, sizes_in}
+use Rattle.heap_svg.proofs.Words.{◌≡◌, ◌∙◌, ap, length, ◌+◌, ◌<◌, ◌≤◌, List, ℕ, true, false, sym, subst, arith, Writes, then, stops, nothing, rest_lines, line_here, none_left, greatest, Room, right_of, right_text, rights_text, sizes_in}
 use Rattle.heap_svg.proofs.right.put_rights.Goals as goal
 
 -- the counts of the rooms of a row make its text

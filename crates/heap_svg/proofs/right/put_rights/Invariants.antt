@@ -1,7 +1,4 @@
-use Rattle.std.proofs.Common.{Bool}
-use Rattle.palm_text.specs.Counted.{Writing, Writes}
-use Rattle.heap_map.proofs.LineLaws.{rest_lines}
-use Rattle.heap_svg.specs.Rows.{right_of, rights_text}
+use Rattle.heap_svg.proofs.Words.{Bool, Writing, Writes, rest_lines, right_of, rights_text}
 use Rattle.heap_svg.proofs.right.put_rights.Given as goal
 
 -- whatever is written from here on completes the rooms

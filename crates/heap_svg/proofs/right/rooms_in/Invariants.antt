@@ -1,7 +1,4 @@
-use Rattle.std.proofs.Common.{◌≡◌, ◌+◌, ◌≤◌, length, drop}
-use Rattle.std.specs.Prelude.{max}
-use Rattle.heap_model.specs.Space.{greatest}
-use Rattle.heap_svg.specs.Rows.{sizes_in}
+use Rattle.heap_svg.proofs.Words.{◌≡◌, ◌+◌, ◌≤◌, length, drop, max, greatest, sizes_in}
 use Rattle.heap_svg.proofs.right.rooms_in.Given as goal
 
 abbrev pub invariant-loop-room : goal.invariant-loop-room

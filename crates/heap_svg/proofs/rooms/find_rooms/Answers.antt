@@ -1,8 +1,4 @@
-use Rattle.std.proofs.Common.{◌≡◌, ◌∙◌, List, length, ap, arith}
-use Rattle.heap_model.specs.Space.{greatest}
-use Rattle.heap_svg.specs.declared.rooms.Room.{Room}
-use Rattle.heap_svg.specs.Rooms.{rooms_drawn, sizes}
-use Rattle.heap_svg.proofs.RoomLaws.{few_rooms, count_packed, largest_packed}
+use Rattle.heap_svg.proofs.Laws.{◌≡◌, ◌∙◌, List, length, ap, arith, greatest, Room, rooms_drawn, sizes, few_rooms, count_packed, largest_packed}
 use Rattle.heap_svg.proofs.rooms.find_rooms.Goals as goal
 
 pub overflow_cast-count : goal.overflow_cast-count

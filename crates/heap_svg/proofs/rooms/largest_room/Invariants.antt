@@ -1,7 +1,4 @@
-use Rattle.std.proofs.Common.{◌≡◌, drop}
-use Rattle.std.specs.Prelude.{max}
-use Rattle.heap_model.specs.Space.{greatest}
-use Rattle.heap_svg.specs.Rooms.{sizes}
+use Rattle.heap_svg.proofs.Words.{◌≡◌, drop, max, greatest, sizes}
 use Rattle.heap_svg.proofs.rooms.largest_room.Given as goal
 
 abbrev pub invariant-loop-room : goal.invariant-loop-room

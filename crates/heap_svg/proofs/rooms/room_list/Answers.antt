@@ -1,8 +1,4 @@
-use Rattle.std.proofs.Common.{arith}
-use Rattle.laws_heap.proofs.FoundChunks.{read_heap}
-use Rattle.heap_check.proofs.WalkLaws.{passed_there, passed_size, passed_all}
-use Rattle.heap_map.proofs.PieceLaws.{free_size_by}
-use Rattle.heap_svg.proofs.RoomLaws.{HaveRooms, rooms_start, rooms_step, rooms_small, rooms_end}
+use Rattle.heap_svg.proofs.Laws.{arith, read_heap, passed_there, passed_size, passed_all, free_size_by, HaveRooms, rooms_start, rooms_step, rooms_small, rooms_end}
 use Rattle.heap_svg.proofs.rooms.room_list.Goals as goal
 
 pub loop-at-init : goal.loop-at-init

@@ -1,6 +1,4 @@
-use Rattle.std.proofs.Common.{◌-◌, length}
-use Rattle.heap_check.proofs.WalkLaws.{HasPassed}
-use Rattle.heap_svg.proofs.RoomLaws.{HaveRooms}
+use Rattle.heap_svg.proofs.Laws.{◌-◌, length, HasPassed, HaveRooms}
 use Rattle.heap_svg.proofs.rooms.room_list.Given as goal
 
 abbrev pub invariant-loop-at : goal.invariant-loop-at

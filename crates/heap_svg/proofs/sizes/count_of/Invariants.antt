@@ -1,6 +1,4 @@
-use Rattle.std.proofs.Common.{◌≡◌, ◌≤◌, take}
-use Rattle.std.specs.Prelude.{count_by}
-use Rattle.heap_svg.specs.Legend.{is_of_size}
+use Rattle.heap_svg.proofs.Words.{◌≡◌, ◌≤◌, take, count_by, is_of_size}
 use Rattle.heap_svg.proofs.sizes.count_of.Given as goal
 
 abbrev pub invariant-loop-size : goal.invariant-loop-size

@@ -1,9 +1,4 @@
-use Rattle.std.proofs.Common.{◌≡◌, ◌+◌, ◌<◌, ◌≤◌, List, ℕ, Bool, true, false, Option, sym, subst, arith}
-use Rattle.std.specs.Prelude.{count_by}
-use Rattle.palm_text.specs.Counted.{Writing, Writes}
-use Rattle.palm_text.proofs.Parts.{then, stops, nothing}
-use Rattle.heap_map.proofs.LineLaws.{rest_lines, line_here, none_left}
-use Rattle.heap_svg.specs.Legend.{is_of_size, size_note, size_note_at, size_notes}
+use Rattle.heap_svg.proofs.Words.{◌≡◌, ◌+◌, ◌<◌, ◌≤◌, List, ℕ, Bool, true, false, Option, sym, subst, arith, count_by, Writing, Writes, then, stops, nothing, rest_lines, line_here, none_left, is_of_size, size_note, size_note_at, size_notes}
 use Rattle.heap_svg.proofs.sizes.put_size_notes.Goals as goal
 
 -- the size of a class and the number of its pieces, in a note

@@ -1,7 +1,4 @@
-use Rattle.std.proofs.Common.{Bool}
-use Rattle.palm_text.specs.Counted.{Writing, Writes}
-use Rattle.heap_map.proofs.LineLaws.{rest_lines}
-use Rattle.heap_svg.specs.Legend.{size_note_at, size_notes}
+use Rattle.heap_svg.proofs.Words.{Bool, Writing, Writes, rest_lines, size_note_at, size_notes}
 use Rattle.heap_svg.proofs.sizes.put_size_notes.Given as goal
 
 -- whatever is written from here on completes the sizes

@@ -1,10 +1,4 @@
-use Rattle.std.proofs.Common.{ℕ, ◌+◌, ◌∙◌, length, List, subst, sym, arith}
-use Rattle.laws_heap.proofs.FoundChunks.{read_heap}
-use Rattle.heap_check.proofs.WalkLaws.{HasPassed, passed_none, passed_there, passed_size}
-use Rattle.heap_map.proofs.CellLaws.{header_room}
-use Rattle.heap_svg.proofs.StripLaws.{Shown, shown_none, shown_end, shown_step, shown_image, exact_image, ok_maps}
-use Rattle.heap_svg.specs.declared.strips.Strip.{Strip}
-use Rattle.heap_svg.specs.Strips.{ShowImage}
+use Rattle.heap_svg.proofs.Laws.{ℕ, ◌+◌, ◌∙◌, length, List, subst, sym, arith, read_heap, HasPassed, passed_none, passed_there, passed_size, header_room, Strip, ShowImage, Shown, shown_none, shown_end, shown_step, shown_image, exact_image, ok_maps}
 use Rattle.heap_svg.proofs.strips.strips_of.Goals as goal
 
 pub at_with_size-header-requires-clause-chunk : goal.at_with_size-header-requires-clause-chunk

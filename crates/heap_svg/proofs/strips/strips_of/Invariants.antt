@@ -1,6 +1,4 @@
-use Rattle.std.proofs.Common.{◌-◌, length}
-use Rattle.heap_check.proofs.WalkLaws.{HasPassed}
-use Rattle.heap_svg.proofs.StripLaws.{Shown}
+use Rattle.heap_svg.proofs.Laws.{◌-◌, length, HasPassed, Shown}
 use Rattle.heap_svg.proofs.strips.strips_of.Given as goal
 
 abbrev pub invariant-loop-at : goal.invariant-loop-at

@@ -1,6 +1,4 @@
-use Rattle.std.proofs.Common.{◌<◌, ◌≤◌, ◌-◌, vec_len, length}
-use Rattle.std.specs.Io.{StartsWith}
-use Rattle.std.specs.Io.KnownBytes.{Keeps, prepend_known}
+use Rattle.live_scripts.proofs.Words.{◌<◌, ◌≤◌, ◌-◌, vec_len, length, StartsWith, Keeps, prepend_known}
 use Rattle.live_scripts.proofs.ahead.read_ahead.Given as goal
 
 -- what was read and what is left are what the reader had

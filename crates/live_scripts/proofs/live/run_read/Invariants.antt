@@ -1,10 +1,4 @@
-use Rattle.std.proofs.Common.{[], ◌≡◌, ◌<◌, ◌≤◌, ◌-◌, cond, drop, length, take, true, vec_len}
-use Rattle.std.specs.Io.KnownBytes.{IsAtEnd, Keeps, prepend_known}
-use Rattle.script_lines.specs.Cuts.{IsUnended}
-use Rattle.palm_script.specs.Loans.{LoanStays}
-use Rattle.palm_text.specs.Output.{output}
-use Rattle.script_calls.specs.Lines.{setting}
-use Rattle.live_scripts.specs.Sessions.{HasRun, live_state}
+use Rattle.live_scripts.proofs.Words.{[], ◌≡◌, ◌<◌, ◌≤◌, ◌-◌, cond, drop, length, take, true, vec_len, IsAtEnd, Keeps, prepend_known, IsUnended, LoanStays, output, setting, HasRun, live_state}
 use Rattle.live_scripts.proofs.live.run_read.Given as goal
 
 -- the lines before `at` were run

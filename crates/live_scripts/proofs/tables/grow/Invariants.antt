@@ -1,5 +1,4 @@
-use Rattle.std.proofs.Common.{◌≡◌, ◌-◌, length}
-use Rattle.script_calls.specs.Lines.{table}
+use Rattle.live_scripts.proofs.Words.{◌≡◌, ◌-◌, length, table}
 use Rattle.live_scripts.proofs.tables.grow.Given as goal
 
 -- the new items stand for no binding

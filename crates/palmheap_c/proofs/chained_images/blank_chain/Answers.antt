@@ -1,6 +1,4 @@
-use Rattle.std.proofs.Common.{inr, refl, rules}
-use Rattle.chunk_format.specs.Blank.{IsRegionSize}
-use Rattle.palmheap_c.proofs.ChainLaws.{chain_made}
+use Rattle.palmheap_c.proofs.Laws.{inr, refl, rules, IsRegionSize, chain_made}
 use Rattle.palmheap_c.proofs.chained_images.blank_chain.Goals as goal
 
 pub returns-in-Ok-clause-made : goal.returns-in-Ok-clause-made

@@ -1,6 +1,4 @@
-use Rattle.std.proofs.Common.{Err, sym, ap, ◌∙◌}
-use Rattle.heap_model.specs.declared.refusal.Refusal.{Refusal}
-use Rattle.palmheap_c.proofs.RefusalLaws.{is_no_memory}
+use Rattle.palmheap_c.proofs.Laws.{Err, sym, ap, ◌∙◌, Refusal, is_no_memory}
 use Rattle.palmheap_c.proofs.file_calls.palmheap_export.Goals as goal
 
 pub returns-in-Err-clause-short : goal.returns-in-Err-clause-short

@@ -1,8 +1,4 @@
-use Rattle.std.proofs.Common.{refl}
-use Rattle.std.proofs.Common.{Err, sym, ap, ◌∙◌}
-use Rattle.heap_model.specs.declared.refusal.Refusal.{Refusal}
-use Rattle.palmheap_c.proofs.RefusalLaws.{is_no_memory}
-use Rattle.palmheap_c.proofs.CallLaws.{is_done}
+use Rattle.palmheap_c.proofs.Laws.{refl, Err, sym, ap, ◌∙◌, Refusal, is_no_memory, is_done}
 use Rattle.palmheap_c.proofs.file_calls.palmheap_import.Goals as goal
 
 pub returns-in-Ok-clause-does : goal.returns-in-Ok-clause-does

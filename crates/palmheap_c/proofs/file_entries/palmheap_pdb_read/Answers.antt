@@ -1,7 +1,4 @@
-use Rattle.std.proofs.Common.{ℕ, List, inl, inr, refl, subst}
-use Rattle.pdb_format.specs.OpenFaults.{IsOpenFault}
-use Rattle.palmheap_c.specs.FileEntries.{IsRead, outputs}
-use Rattle.palmheap_c.proofs.EntryLaws.{is_read}
+use Rattle.palmheap_c.proofs.Laws.{ℕ, List, inl, inr, refl, subst, IsOpenFault, IsRead, outputs, is_read}
 use Rattle.palmheap_c.proofs.file_entries.palmheap_pdb_read.Goals as goal
 
 pub returns-in-Err-OutOfMemory : goal.returns-in-Err-OutOfMemory

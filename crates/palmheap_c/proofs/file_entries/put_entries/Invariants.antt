@@ -1,6 +1,4 @@
-use Rattle.std.proofs.Common.{◌≡◌, drop, take}
-use Rattle.heap_model.specs.Lists.{numbered}
-use Rattle.palmheap_c.specs.FileEntries.{file_entry_at}
+use Rattle.palmheap_c.proofs.Words.{◌≡◌, drop, take, numbered, file_entry_at}
 use Rattle.palmheap_c.proofs.file_entries.put_entries.Given as goal
 
 -- the entries so far are at the start, and those after them are unchanged

@@ -1,5 +1,4 @@
-use Rattle.std.proofs.Common.{refl, inr, subst}
-use Rattle.pdb_format.specs.OpenFaults.{IsOpenFault}
+use Rattle.palmheap_c.proofs.Words.{refl, inr, subst, IsOpenFault}
 use Rattle.palmheap_c.proofs.files.open.Goals as goal
 
 pub returns-in-Err-OutOfMemory-clause-err : goal.returns-in-Err-OutOfMemory-clause-err

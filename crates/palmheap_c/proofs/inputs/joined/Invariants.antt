@@ -1,5 +1,4 @@
-use Rattle.std.proofs.Common.{◌≡◌, take}
-use Rattle.palmheap_c.specs.Runs.{ends_from, joined}
+use Rattle.palmheap_c.proofs.Words.{◌≡◌, take, ends_from, joined}
 use Rattle.palmheap_c.proofs.inputs.joined.Given as goal
 
 -- the files so far are joined, and each has its end

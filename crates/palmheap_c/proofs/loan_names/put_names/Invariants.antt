@@ -1,5 +1,4 @@
-use Rattle.std.proofs.Common.{◌≡◌, drop, take}
-use Rattle.palmheap_c.specs.LoanNames.{numbers_of_names}
+use Rattle.palmheap_c.proofs.Words.{◌≡◌, drop, take, numbers_of_names}
 use Rattle.palmheap_c.proofs.loan_names.put_names.Given as goal
 
 -- the names so far are at the start, and the numbers after them are unchanged

@@ -1,10 +1,6 @@
-use Rattle.std.proofs.Common.{◌≡◌, ◌∙◌, ℕ, None, ap, refl, subst, sym}
-use Rattle.heap_model.specs.Memory.{Memory}
-use Rattle.mem_manager.specs.Loans.{OnLoan}
-use Rattle.palm_store.specs.Loans.{PutsBackInStore}
-use Rattle.palmheap_c.specs.Pointers.{pinned}
+use Rattle.palmheap_c.proofs.Laws.{◌≡◌, ◌∙◌, ℕ, ap, refl, subst, sym, Memory, OnLoan, PutsBackInStore, pinned, puts_keep}
+use Rattle.std.proofs.Common.{None}
 use Rattle.palmheap_c.specs.declared.loans.KeptLoan.{KeptLoan}
-use Rattle.palmheap_c.proofs.PointerLaws.{puts_keep}
 use Rattle.palmheap_c.proofs.loans.palmheap_put_back.Goals as goal
 
 pub returns-clause-holds : goal.returns-clause-holds

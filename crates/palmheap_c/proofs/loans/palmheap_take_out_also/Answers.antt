@@ -1,8 +1,4 @@
-use Rattle.std.proofs.Common.{refl, subst}
-use Rattle.heap_model.specs.Memory.{Memory}
-use Rattle.palm_store.specs.Loans.{TakesOutOfStore}
-use Rattle.palmheap_c.specs.Calls.{as_name}
-use Rattle.palmheap_c.proofs.PointerLaws.{takes_keep}
+use Rattle.palmheap_c.proofs.Laws.{refl, subst, Memory, TakesOutOfStore, as_name, takes_keep}
 use Rattle.palmheap_c.proofs.loans.palmheap_take_out_also.Goals as goal
 
 pub returns-in-Ok-clause-holds : goal.returns-in-Ok-clause-holds

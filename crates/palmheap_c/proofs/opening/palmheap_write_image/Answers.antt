@@ -1,6 +1,5 @@
 -- An image is written only if nothing is lent.
-use Rattle.std.proofs.Common.{◌≡◌, ◌≢◌, List, [], ◌∷◌, rules, refl, inl}
-use Rattle.heap_model.specs.Memory.{Lent}
+use Rattle.palmheap_c.proofs.Words.{◌≡◌, ◌≢◌, List, [], ◌∷◌, rules, refl, inl, Lent}
 use Rattle.palmheap_c.proofs.opening.palmheap_write_image.Goals as goal
 
 none_lent : (lents : List Lent) → (lents ≢ [] → ⊥) → lents ≡ []

@@ -1,8 +1,4 @@
-use Rattle.std.proofs.Common.{ℕ, subst, sym}
-use Rattle.heap_model.specs.Numbers.{number_of}
-use Rattle.palmheap_c.specs.Opened.{Opened}
-use Rattle.palmheap_c.specs.Pointers.{LocksPointer, RefusesPointer}
-use Rattle.palmheap_c.proofs.PointerLaws.{lock_keeps, refused_keeps}
+use Rattle.palmheap_c.proofs.Laws.{ℕ, subst, sym, number_of, Opened, LocksPointer, RefusesPointer, lock_keeps, refused_keeps}
 use Rattle.palmheap_c.proofs.pointers.palmheap_lock_pointer.Goals as goal
 
 pub returns-in-Ok-clause-holds : goal.returns-in-Ok-clause-holds

@@ -1,6 +1,4 @@
-use Rattle.std.proofs.Common.{length, subst}
-use Rattle.heap_model.specs.Memory.{Memory}
-use Rattle.raw_region.specs.Holes.{AllLieIn}
+use Rattle.palmheap_c.proofs.Words.{length, subst, Memory, AllLieIn}
 use Rattle.palmheap_c.proofs.PlaceLaws.{at_places}
 use Rattle.palmheap_c.proofs.pointers.palmheap_start.Goals as goal
 

@@ -1,7 +1,4 @@
-use Rattle.std.proofs.Common.{sym, subst}
-use Rattle.palmheap_c.specs.Opened.{Opened}
-use Rattle.palmheap_c.specs.Pointers.{HoldsPointers, UnlocksPointer, unlock_code}
-use Rattle.palmheap_c.proofs.PointerLaws.{unlock_pointer_keeps}
+use Rattle.palmheap_c.proofs.Laws.{sym, subst, Opened, HoldsPointers, UnlocksPointer, unlock_code, unlock_pointer_keeps}
 use Rattle.palmheap_c.proofs.pointers.palmheap_unlock_handle.Goals as goal
 
 pub unlock_pointer-requires : goal.unlock_pointer-requires

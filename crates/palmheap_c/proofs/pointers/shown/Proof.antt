@@ -1,27 +1,6 @@
 -- `shown` copies the pointer, and keeps the place as it is. Assumes `Logic`.
-use Rattle.std.proofs.Common.{◌≡◌, ◌<◌, ◌^◌, ℕ, List, [], ◌∷◌, ◌++◌, length, refl, sym}
-use Rattle.std.proofs.raw_atomic.Walks.{proved_at, leaves}
-use Rattle.std.specs.Prelude.{Option, Some}
-use mir.Syntax.{Fn}
-use mir.Val.{Val, vptr, vstruct, vcons, vnil}
-use base.Logic.{SProp, emp, id⊢, never}
-use prog.Wp.{WpFn}
-use contract.Monad.{fact, fact_i}
-use contract.Running.{tables}
-use types.Kit.{‵, raw, ◌⊛◌, prop, ◌$◌, ◌∵◌, !, qed, by, move, drop, use0, rewrite, split, regoal, fsplit, fjoin, feq_i, fpack}
-use types.Part.{whole, sub, agg}
-use types.Run.{stop, fld, of_opd, no_more, and_then, returns, enter}
-use types.ByLocal.{alloc_all, pass_all, free_all, look_at, get, get_in, sets}
-use denote.RattleType.{RattleType, owns, Valss}
-use denote.RawPtr.{Ptr, RawPtr, block_ptr, in_a_block}
-use denote.Signature.{types_at, plain}
-use denote.Steps.{nothing, heard}
-use denote.Struct.Struct.{within}
-use denote.Struct.Declared.{shape}
-use denote.Struct.Tuple.{tuple_type}
-use denote.Triple.Entry.{alive}
-use denote.Triple.Walked.{Stays, stay_dropped, walk_of}
-use Rattle.core.proofs.alloc.Calls.{Goes-blank}
+use Rattle.palmheap_c.proofs.Words.{◌≡◌, ◌<◌, ◌^◌, ℕ, List, [], ◌∷◌, ◌++◌, length, refl, sym, proved_at, leaves, Option, Some, Fn, Val, vptr, vstruct, vcons, vnil, SProp, emp, id⊢, never, WpFn, fact, fact_i, tables, ‵, raw, ◌⊛◌, prop, ◌$◌, ◌∵◌, !, qed, by, move, use0, rewrite, split, regoal, fsplit, fjoin, feq_i, fpack, whole, sub, agg, stop, fld, of_opd, no_more, and_then, returns, enter, alloc_all, pass_all, free_all, look_at, get, get_in, sets, RattleType, owns, Valss, Ptr, RawPtr, block_ptr, in_a_block, types_at, plain, nothing, heard, within, shape, tuple_type, alive, Stays, stay_dropped, walk_of, Goes-blank}
+use types.Kit.{drop}
 use Rattle.palmheap_c.proofs.Sized.{sized_val, sized_own, sized_told, sized_made}
 use Rattle.raw_region.specs.LentParts.{IsFull, bytes_in, owns_part}
 use Rattle.raw_region.specs.Ownership.{owns_bytes}

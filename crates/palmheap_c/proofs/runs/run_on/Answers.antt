@@ -1,9 +1,7 @@
 -- The script ran on the store of the image, and out of memory means that an allocation failed.
-use Rattle.std.proofs.Common.{◌≡◌, ◌∙◌, [], Err, Some, ap, inl, refl, sym, subst}
+use Rattle.palmheap_c.proofs.Laws.{◌≡◌, ◌∙◌, [], Err, ap, inl, refl, sym, subst, Opened, IsOpenStore, ran}
+use Rattle.std.proofs.Common.{Some}
 use Rattle.palm_script.specs.declared.runs.RunFault.TheVariants.{OutOfMemory}
-use Rattle.palmheap_c.proofs.RunLaws.{ran}
-use Rattle.palmheap_c.specs.Opened.{Opened}
-use Rattle.palmheap_c.specs.Opening.{IsOpenStore}
 use Rattle.palmheap_c.proofs.runs.run_on.Goals as goal
 
 pub returns-in-Ok-ran-clause-ran : goal.returns-in-Ok-ran-clause-ran

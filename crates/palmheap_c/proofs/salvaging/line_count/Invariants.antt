@@ -1,6 +1,4 @@
-use Rattle.std.proofs.Common.{◌≡◌, ◌≤◌, take}
-use Rattle.std.specs.Prelude.{count_by}
-use Rattle.palmheap_c.specs.Salvaging.{is_line_end}
+use Rattle.palmheap_c.proofs.Words.{◌≡◌, ◌≤◌, take, count_by, is_line_end}
 use Rattle.palmheap_c.proofs.salvaging.line_count.Given as goal
 
 -- the lines so far are counted

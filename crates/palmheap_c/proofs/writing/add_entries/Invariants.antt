@@ -1,6 +1,5 @@
-use Rattle.std.proofs.Common.{◌≡◌, take}
+use Rattle.palmheap_c.proofs.Words.{◌≡◌, take, with_all}
 use Rattle.file_parts.specs.Listed.{IsListed, database_listed}
-use Rattle.palmheap_c.specs.Writing.{with_all}
 use Rattle.palmheap_c.proofs.writing.add_entries.Given as goal
 
 -- the entries so far are added

@@ -1,6 +1,4 @@
-use Rattle.std.proofs.Common.{◌≡◌, ◌++◌, take}
-use Rattle.std.specs.Prelude.{map}
-use Rattle.palmheap_c.specs.Writing.{part_from_c}
+use Rattle.palmheap_c.proofs.Words.{◌≡◌, ◌++◌, take, map, part_from_c}
 use Rattle.palmheap_c.proofs.writing.add_parts.Given as goal
 
 -- the parts of the entries so far are added

@@ -1,7 +1,5 @@
-use Rattle.std.proofs.Common.{ℕ, List, Option, inl, inr, refl, subst}
-use Rattle.heap_model.specs.Database.{Database}
-use Rattle.file_parts.specs.Values.{IsNoExactFile}
-use Rattle.palmheap_c.specs.Writing.{given_by, named_database}
+use Rattle.palmheap_c.proofs.Words.{ℕ, List, inl, inr, refl, subst, Database, IsNoExactFile, given_by, named_database}
+use Rattle.std.proofs.Common.{Option}
 use Rattle.palmheap_c.proofs.writing.exact_of.Goals as goal
 
 pub returns-in-Err-NoFile-clause-err : goal.returns-in-Err-NoFile-clause-err

@@ -1,6 +1,4 @@
-use Rattle.std.proofs.Common.{◌≡◌, true, take}
-use Rattle.std.specs.List.{list_all}
-use Rattle.palmheap_c.specs.Writing.{has_data_inside}
+use Rattle.palmheap_c.proofs.Words.{◌≡◌, true, take, list_all, has_data_inside}
 use Rattle.palmheap_c.proofs.writing.have_places.Given as goal
 
 -- the data of the entries so far is inside

@@ -1,5 +1,4 @@
-use Rattle.std.proofs.Common.{inr, refl, ◌∙◌}
-use Rattle.palmheap_c.specs.Writing.{given_by}
+use Rattle.palmheap_c.proofs.Words.{inr, refl, ◌∙◌, given_by}
 use Rattle.palmheap_c.proofs.WriteLaws.{file_from_c}
 use Rattle.palmheap_c.proofs.writing.packed.Goals as goal
 

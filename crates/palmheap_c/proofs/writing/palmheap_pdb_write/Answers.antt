@@ -1,5 +1,4 @@
-use Rattle.palmheap_c.specs.Buffers.{buffer}
-use Rattle.palmheap_c.specs.Writing.{given}
+use Rattle.palmheap_c.proofs.Words.{buffer, given}
 use Rattle.palmheap_c.proofs.ReadLaws.{written_back}
 use Rattle.palmheap_c.proofs.writing.palmheap_pdb_write.Goals as goal
 

@@ -1,12 +1,5 @@
-use Rattle.std.proofs.Common.{ℕ, true, false, subst, ap, ◌∙◌, refl}
-use Rattle.std.specs.Prelude.{length, Any}
-use Rattle.std.proofs.lemmas.Bool.{both_ways}
-use Rattle.palm_text.specs.Counted.{Writes}
-use Rattle.heap_model.specs.Database.{Database, data_in, database_in}
-use Rattle.heap_model.specs.Lending.{IsLent}
-use Rattle.heap_model.specs.Store.{content, store_of}
-use Rattle.heap_model.specs.Files.{file_of}
-use Rattle.pdb_files.proofs.Databases.{exportable, not_none, numbered, same_database, lent_here, lent_number, in_this, of_this, none_in}
+use Rattle.pdb_files.proofs.Laws.{ℕ, true, false, subst, ap, ◌∙◌, refl, Any, both_ways, Writes, Database, data_in, database_in, IsLent, content, store_of, file_of, exportable, not_none, numbered, same_database, lent_here, lent_number, in_this, of_this, none_in}
+use Rattle.std.specs.Prelude.{length}
 use Rattle.pdb_files.proofs.exporting.export.Goals as goal
 
 pub lends_data-requires : goal.lends_data-requires

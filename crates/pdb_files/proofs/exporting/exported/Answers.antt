@@ -1,6 +1,4 @@
-use Rattle.std.proofs.lemmas.Bool.{both_ways}
-use Rattle.heap_model.specs.Database.{database_in}
-use Rattle.pdb_files.proofs.Databases.{exportable, lent_here, lent_number, lent_out, no_number, no_room, numbered, written}
+use Rattle.pdb_files.proofs.Laws.{both_ways, database_in, exportable, lent_here, lent_number, lent_out, no_number, no_room, numbered, written}
 use Rattle.pdb_files.proofs.exporting.exported.Goals as goal
 
 pub lends_data-requires : goal.lends_data-requires

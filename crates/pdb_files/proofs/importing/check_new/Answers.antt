@@ -1,8 +1,4 @@
-use Rattle.std.proofs.Common.{◌≤◌, ℕ, List, length, refl, sym, subst, ◌∙◌, arith, inl, inr}
-use Rattle.std.proofs.lemmas.List.{take_all}
-use Rattle.heap_model.specs.Store.{most_databases, store_of}
-use Rattle.heap_model.specs.DatabaseSteps.{IsTaken}
-use Rattle.pdb_files.proofs.Refusals.{taken_found, free_found, count_is}
+use Rattle.pdb_files.proofs.Laws.{◌≤◌, ℕ, List, length, refl, sym, subst, ◌∙◌, arith, inl, inr, take_all, most_databases, store_of, IsTaken, taken_found, free_found, count_is}
 use Rattle.pdb_files.proofs.importing.check_new.Goals as goal
 
 pub returns-then-is_ok-clause-why : goal.returns-then-is_ok-clause-why

@@ -1,14 +1,6 @@
-use Rattle.std.proofs.Common.{ℕ, List, length, ap, subst, ◌∙◌, arith}
-use Rattle.heap_model.specs.Store.{store_of}
-use Rattle.heap_model.specs.DatabaseSteps.{IsTaken}
-use Rattle.heap_model.specs.Refusals.{FirstBrings}
-use Rattle.heap_model.specs.declared.call.FileCall.TheVariants.{Import}
+use Rattle.pdb_files.proofs.Laws.{ℕ, List, length, ap, subst, ◌∙◌, arith, store_of, IsTaken, FirstBrings, Import, refused, handed_on, checks_of_new, good_brings, front_brings, no_memory_left, names_enough}
 use Rattle.heap_model.specs.declared.call.Call.TheVariants as calls
 use Rattle.heap_model.specs.declared.call.Reply.TheVariants as replies
-use Rattle.laws_store.proofs.CallSteps.{refused, handed_on}
-use Rattle.pdb_files.specs.Imports.{checks_of_new}
-use Rattle.pdb_files.proofs.Refusals.{good_brings, front_brings}
-use Rattle.pdb_files.proofs.ReadDatabases.{no_memory_left, names_enough}
 use Rattle.pdb_files.proofs.LongBlocks.{no_room_for_long}
 use Rattle.pdb_files.proofs.importing.import_opened.Goals as goal
 

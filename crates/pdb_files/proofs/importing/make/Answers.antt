@@ -1,21 +1,8 @@
 -- The call makes the whole database, or leaves the store as before.
-use Rattle.std.proofs.Common.{◌≢◌, ℕ, List, Option, length, sym, subst, ◌∙◌}
-use Rattle.std.proofs.lemmas.List.{length-map}
-use Rattle.heap_model.specs.Store.{store_of}
-use Rattle.heap_model.specs.Files.{blocks_in}
-use Rattle.heap_model.specs.Refusals.{FirstBrings}
-use Rattle.heap_model.specs.declared.names.Name.{Name}
-use Rattle.heap_model.specs.declared.call.FileCall.TheVariants.{Import}
+use Rattle.pdb_files.proofs.Laws.{◌≢◌, ℕ, List, Option, length, sym, subst, ◌∙◌, length-map, store_of, blocks_in, FirstBrings, Name, Import, OutOfMemory, handed_on, slides_then, none_slid, WholeEntry, data_sizes, numbers_in, MakesWhole, checks_of_whole, AreFilled, whole_not_memory, zeros_first, imported, no_room_left, names_enough}
 use Rattle.heap_model.specs.declared.call.Call.TheVariants as calls
 use Rattle.heap_model.specs.declared.call.Reply.TheVariants as replies
-use Rattle.heap_model.specs.declared.refusal.Refusal.TheVariants.{OutOfMemory}
 use Rattle.laws_heap.proofs.Results.{if_err}
-use Rattle.laws_store.proofs.CallSteps.{handed_on}
-use Rattle.palm_store.proofs.Rests.{slides_then, none_slid}
-use Rattle.palm_store.specs.WholeDatabases.{WholeEntry, data_sizes, numbers_in, MakesWhole, checks_of_whole}
-use Rattle.pdb_files.specs.Filling.{AreFilled}
-use Rattle.pdb_files.proofs.Refusals.{whole_not_memory}
-use Rattle.pdb_files.proofs.ReadDatabases.{zeros_first, imported, no_room_left, names_enough}
 use Rattle.pdb_files.proofs.importing.make.Goals as goal
 
 pub returns-in_err-db-clause-does : goal.returns-in_err-db-clause-does

@@ -1,9 +1,6 @@
-use Rattle.std.proofs.Common.{subst, rules}
-use Rattle.heap_model.specs.declared.call.FileCall.TheVariants.{Import}
+use Rattle.pdb_files.proofs.Laws.{subst, rules, Import, refused, fault_brings, front_brings}
 use Rattle.heap_model.specs.declared.call.Call.TheVariants as calls
-use Rattle.laws_store.proofs.CallSteps.{refused}
 use Rattle.pdb_format.specs.OpenFaults.{IsOpenFault}
-use Rattle.pdb_files.proofs.Refusals.{fault_brings, front_brings}
 use Rattle.pdb_files.proofs.importing.refusal_of.Goals as goal
 
 pub returns-in-BadFile-clause-does : goal.returns-in-BadFile-clause-does

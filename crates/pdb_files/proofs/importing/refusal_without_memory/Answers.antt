@@ -1,15 +1,7 @@
-use Rattle.std.proofs.Common.{List, ℕ, length, ap, subst, arith}
-use Rattle.heap_model.specs.Store.{store_of}
-use Rattle.heap_model.specs.DatabaseSteps.{IsTaken}
-use Rattle.heap_model.specs.Refusals.{FirstBrings}
-use Rattle.heap_model.specs.declared.call.FileCall.TheVariants.{Import}
+use Rattle.pdb_files.proofs.Laws.{List, ℕ, length, ap, subst, arith, store_of, IsTaken, FirstBrings, Import, refused, checks_of_new, good_brings, front_brings, no_memory_left}
 use Rattle.heap_model.specs.declared.call.Call.TheVariants as calls
-use Rattle.laws_store.proofs.CallSteps.{refused}
 use Rattle.pdb_format.proofs.FileNames.{name_short}
 use Rattle.pdb_format.proofs.GoodFiles.{not_truncated}
-use Rattle.pdb_files.specs.Imports.{checks_of_new}
-use Rattle.pdb_files.proofs.Refusals.{good_brings, front_brings}
-use Rattle.pdb_files.proofs.ReadDatabases.{no_memory_left}
 use Rattle.pdb_files.proofs.importing.refusal_without_memory.Goals as goal
 
 pub name_in-requires : goal.name_in-requires

@@ -1,7 +1,4 @@
-use Rattle.std.proofs.Common.{◌++◌, is_ok, false}
-use Rattle.palm_text.proofs.Parts.{then, stops}
-use Rattle.heap_svg.specs.Drawing.{bottom_text, drawing_text, middle_text, notes_text, top_text}
-use Rattle.heap_svg.proofs.ChainLaws.{fails}
+use Rattle.heap_svg.proofs.Laws.{◌++◌, is_ok, false, then, stops, bottom_text, drawing_text, middle_text, notes_text, top_text, fails}
 use Rattle.heap_svg.proofs.drawing.Drawing.put.Goals as goal
 
 pub returns-in_err-put_notes : goal.returns-in_err-put_notes

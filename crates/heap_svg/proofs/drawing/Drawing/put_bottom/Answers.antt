@@ -1,9 +1,4 @@
-use Rattle.std.proofs.Common.{◌++◌, is_ok, false, arith}
-use Rattle.palm_text.proofs.Parts.{then, stops}
-use Rattle.heap_svg.specs.Drawing.{bottom_text, closing_text}
-use Rattle.heap_svg.specs.Legend.{databases_note, kinds_text}
-use Rattle.heap_svg.proofs.DrawingLaws.{drawn_rows}
-use Rattle.heap_svg.proofs.ChainLaws.{fails}
+use Rattle.heap_svg.proofs.Laws.{◌++◌, is_ok, false, arith, then, stops, bottom_text, closing_text, databases_note, kinds_text, drawn_rows, fails}
 use Rattle.heap_svg.proofs.drawing.Drawing.put_bottom.Goals as goal
 
 pub put_kinds-requires : goal.put_kinds-requires

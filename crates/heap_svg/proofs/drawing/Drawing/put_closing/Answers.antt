@@ -1,6 +1,4 @@
-use Rattle.std.proofs.Common.{◌≡◌, length, ap, arith}
-use Rattle.heap_map.specs.Text.{free_pieces}
-use Rattle.heap_svg.proofs.DrawingLaws.{drawn_rows}
+use Rattle.heap_svg.proofs.Laws.{◌≡◌, length, ap, arith, free_pieces, drawn_rows}
 use Rattle.heap_svg.proofs.drawing.Drawing.put_closing.Goals as goal
 
 pub sizes_top-requires : goal.sizes_top-requires

@@ -1,10 +1,4 @@
-use Rattle.std.proofs.Common.{◌≡◌, ◌<◌, ◌+◌, List, length, ap, subst, sym, arith}
-use Rattle.std.specs.Prelude.{All}
-use Rattle.heap_svg.specs.Rooms.{rooms_drawn}
-use Rattle.heap_svg.specs.declared.strips.Strip.{Strip}
-use Rattle.heap_svg.proofs.RoomLaws.{few_rooms}
-use Rattle.heap_svg.proofs.RowLaws.{strips_inside}
-use Rattle.heap_svg.proofs.DrawingLaws.{drawn_rows}
+use Rattle.heap_svg.proofs.Laws.{◌≡◌, ◌<◌, ◌+◌, List, length, ap, subst, sym, arith, All, rooms_drawn, Strip, few_rooms, strips_inside, drawn_rows}
 use Rattle.heap_svg.proofs.drawing.Drawing.put_middle.Goals as goal
 
 pub put_framed-requires : goal.put_framed-requires

@@ -1,14 +1,4 @@
-use Rattle.std.proofs.Common.{◌≡◌, ◌+◌, ℕ, List, true, is_ok, length, ap, subst, ◌∙◌, arith}
-use Rattle.std.specs.Prelude.{count_by}
-use Rattle.heap_model.specs.Chunk.{is_movable}
-use Rattle.heap_model.specs.Reading.{chunks_of}
-use Rattle.heap_model.specs.Slots.{slots_of}
-use Rattle.heap_model.specs.Store.{listed}
-use Rattle.palm_text.specs.Counted.{Writes}
-use Rattle.palm_text.proofs.Parts.{then}
-use Rattle.heap_svg.specs.Legend.{sizes_at}
-use Rattle.heap_svg.specs.Drawing.{open_text, used_slots_text, height_of, top_text}
-use Rattle.heap_svg.proofs.DrawingLaws.{drawn_rows}
+use Rattle.heap_svg.proofs.Laws.{◌≡◌, ◌+◌, ℕ, List, true, is_ok, length, ap, subst, ◌∙◌, arith, count_by, is_movable, chunks_of, slots_of, listed, Writes, then, sizes_at, open_text, used_slots_text, height_of, top_text, drawn_rows}
 use Rattle.heap_svg.proofs.drawing.Drawing.put_top.Goals as goal
 
 pub sizes_top-requires : goal.sizes_top-requires

@@ -1,7 +1,4 @@
-use Rattle.std.proofs.Common.{◌≡◌, ◌+◌, ◌++◌, [], refl, sym, ap, ◌∙◌, append_assoc, length, length-append, arith}
-use Rattle.palm_script.proofs.LoanLaws.{stays_itself, stays_then}
-use Rattle.script_calls.specs.Lines.{setting}
-use Rattle.live_scripts.proofs.SessionLaws.{on_handed, runs_further, runs_nothing, runs_taken, stops_further}
+use Rattle.live_scripts.proofs.Laws.{◌≡◌, ◌+◌, ◌++◌, [], refl, sym, ap, ◌∙◌, append_assoc, length, length-append, arith, stays_itself, stays_then, setting, on_handed, runs_further, runs_nothing, runs_taken, stops_further}
 use Rattle.live_scripts.proofs.session.Session.run_ended_lines.Goals as goal
 
 pub loop-cut-init : goal.loop-cut-init

@@ -1,8 +1,4 @@
-use Rattle.std.proofs.Common.{[], ◌≡◌, ◌≤◌, ◌+◌, ◌-◌, ◌++◌, List, ℕ, length}
-use Rattle.palm_script.specs.Loans.{LoanStays}
-use Rattle.palm_text.specs.Output.{output}
-use Rattle.script_calls.specs.Lines.{setting}
-use Rattle.live_scripts.specs.Sessions.{RunsOn, live_state}
+use Rattle.live_scripts.proofs.Words.{[], ◌≡◌, ◌≤◌, ◌+◌, ◌-◌, ◌++◌, List, ℕ, length, LoanStays, output, setting, RunsOn, live_state}
 use Rattle.live_scripts.proofs.session.Session.run_ended_lines.Given as goal
 
 -- the lines before the rest were run

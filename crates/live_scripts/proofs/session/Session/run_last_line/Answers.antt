@@ -1,8 +1,6 @@
-use Rattle.std.proofs.Common.{◌<◌, length, arith}
+use Rattle.live_scripts.proofs.Laws.{◌<◌, length, arith, setting, last_stops_on, line_ends_on}
 use Rattle.std.proofs.lemmas.Bool.Decides.{nat_tests}
 use Rattle.std.proofs.lemmas.Result.{IfErr-weaker, on_ok_weaker}
-use Rattle.script_calls.specs.Lines.{setting}
-use Rattle.live_scripts.proofs.SessionLaws.{last_stops_on, line_ends_on}
 use Rattle.live_scripts.proofs.session.Session.run_last_line.Goals as goal
 
 pub returns-clause-ok : goal.returns-clause-ok

@@ -1,11 +1,5 @@
-use Rattle.std.proofs.Common.{◌≡◌, ◌∙◌, ◌++◌, ap, length, sym}
-use Rattle.std.proofs.lemmas.List.{with_items_is}
-use Rattle.std.specs.Option.{option_to_list}
+use Rattle.live_scripts.proofs.Laws.{◌≡◌, ◌∙◌, ◌++◌, ap, length, sym, with_items_is, option_to_list, setting, tables, bound_in, call_stays, runs_line}
 use Rattle.std.specs.Vec.{with_items}
-use Rattle.script_calls.specs.Lines.{setting, tables}
-use Rattle.live_scripts.specs.Sessions.{bound_in}
-use Rattle.palm_script.proofs.LoanLaws.{call_stays}
-use Rattle.live_scripts.proofs.SessionLaws.{runs_line}
 use Rattle.live_scripts.proofs.session.Session.run_line.Goals as goal
 
 -- the tables that the line was given have the session's bindings, and are those that it left

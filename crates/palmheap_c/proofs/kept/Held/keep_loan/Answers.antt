@@ -1,13 +1,6 @@
-use Rattle.std.proofs.Common.{◌≡◌, ℕ, ap, subst, ◌∙◌}
+use Rattle.palmheap_c.proofs.Laws.{◌≡◌, ℕ, ap, subst, ◌∙◌, Memory, Unlock, OnLoan, DoesMemory, number_or_refused, Opened, Pinned, unlocks}
 use Rattle.std.specs.Mem.{manually_drop_value}
-use Rattle.heap_model.specs.Memory.{Memory}
-use Rattle.heap_model.specs.declared.call.MemoryCall.TheVariants.{Unlock}
-use Rattle.mem_manager.specs.Loans.{OnLoan}
 use Rattle.palm_store.specs.Loans as stores
-use Rattle.palm_store.specs.Replies.{DoesMemory, number_or_refused}
-use Rattle.palmheap_c.specs.Opened.{Opened}
-use Rattle.palmheap_c.specs.declared.pointers.Pinned.{Pinned}
-use Rattle.palmheap_c.proofs.PointerLaws.{unlocks}
 use Rattle.palmheap_c.proofs.kept.Held.keep_loan.Goals as goal
 
 pub returns-in-Err-clause-refused : goal.returns-in-Err-clause-refused

@@ -1,16 +1,5 @@
-use Rattle.std.proofs.Common.{◌≡◌, ℕ, ap, subst, ◌∙◌}
-use Rattle.heap_model.specs.Space.{place_of}
-use Rattle.palmheap_c.specs.Pointers.{HasBytesOut}
-use Rattle.heap_model.specs.Memory.{Memory}
-use Rattle.heap_model.specs.Refusals.{FirstBrings}
-use Rattle.heap_model.specs.declared.call.MemoryCall.TheVariants.{Lock}
-use Rattle.heap_model.specs.declared.call.Reply.TheVariants.{Locked}
-use Rattle.mem_manager.specs.Loans.{also_out_checks}
+use Rattle.palmheap_c.proofs.Laws.{◌≡◌, ℕ, ap, subst, ◌∙◌, place_of, HasBytesOut, Memory, FirstBrings, Lock, Locked, also_out_checks, DoesMemory, as_name, Opened, first_given, first_refused, never_refused}
 use Rattle.palm_store.specs.Loans as stores
-use Rattle.palm_store.specs.Replies.{DoesMemory}
-use Rattle.palmheap_c.specs.Calls.{as_name}
-use Rattle.palmheap_c.specs.Opened.{Opened}
-use Rattle.palmheap_c.proofs.PointerLaws.{first_given, first_refused, never_refused}
 use Rattle.palmheap_c.proofs.kept.Held.lock_first.Goals as goal
 
 pub returns-in-Ok-clause-locks : goal.returns-in-Ok-clause-locks

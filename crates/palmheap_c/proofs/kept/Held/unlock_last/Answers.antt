@@ -1,10 +1,4 @@
-use Rattle.std.proofs.Common.{◌≡◌, ap, sym, subst, ◌∙◌}
-use Rattle.std.specs.Prelude.{Some}
-use Rattle.heap_model.specs.Memory.{Memory}
-use Rattle.heap_model.specs.declared.names.Name.{Name}
-use Rattle.mem_manager.specs.Loans.{IsOutUnder, OnLoan}
-use Rattle.palmheap_c.specs.Opened.{Opened}
-use Rattle.palmheap_c.specs.Pointers.{loan_of, pinned}
+use Rattle.palmheap_c.proofs.Words.{◌≡◌, ap, sym, subst, ◌∙◌, Some, Memory, Name, IsOutUnder, OnLoan, Opened, loan_of, pinned}
 use Rattle.palmheap_c.proofs.kept.Held.unlock_last.Goals as goal
 
 pub put_back-requires : goal.put_back-requires

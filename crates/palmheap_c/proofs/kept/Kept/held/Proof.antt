@@ -1,37 +1,13 @@
 -- `held` lends the store, and C's hold follows it. Assumes `Logic`.
-use Rattle.std.proofs.Common.{◌≡◌, ℕ, List, [], ◌∷◌, refl, sym, ap, ◌∙◌}
-use Rattle.std.proofs.raw_atomic.Walks.{proved}
-use base.Fraction.{full_share}
-use base.Logic.{ent, sep, never, fst∗, id⊢}
-use base.Fml.{Fml, GName, ftrue, fsep, flft}
-use mir.Syntax.{named}
+use Rattle.palmheap_c.proofs.Laws.{◌≡◌, ℕ, List, [], ◌∷◌, refl, sym, ap, ◌∙◌, proved, full_share, ent, sep, never, fst∗, id⊢, Fml, GName, ftrue, fsep, flft, named, Val, vptr, Ura, tables, Logic, sem, ‵, raw, ◌⊛◌, some, later, at_ret, ◌$◌, ◌∵◌, !, qed, move, keep, use1, split, split3, join, fsplit, fsplit3, fjoin, fpack, rewrite, await, pick, suffices, frame, group, done, whole, sub, look_in, enter, of_opd, load, addr, stop, fld, first, blocks, exec, returns, alloc_all, pass_all, free_all, look_at, get, through, sets, sets_last, env, no, shows, mem, cell_at, part_of, lone, RattleType, Ptr, block_ptr, null_ptr, in_a_block, plain, mut_ref_to, nothing, opens, peeks, Stays, walk_of, says, stay_dropped, Goes-spent_ref, ends_at, box_owns, Opened, frees, Data}
 use mir.Raw.{raw as bare}
-use mir.Val.{Val, vptr}
-use seplogic.Ra.Ura.{Ura}
-use contract.Running.{tables}
-use types.Logic.{Logic, sem}
-use types.Kit.{‵, raw, ◌⊛◌, some, later, at_ret, ◌$◌, ◌∵◌, !, qed, move, keep, use1, split, split3, join, fsplit, fsplit3, fjoin, fpack, rewrite, await, pick, suffices, frame, group, done}
-use types.Part.{whole, sub, look_in}
-use types.Run.{enter, of_opd, load, addr, stop, fld, first, blocks, exec, returns}
-use types.ByLocal.{alloc_all, pass_all, free_all, look_at, get, through, sets, sets_last, env}
-use denote.Exit.{no}
 use denote.Follow.{follows, Part, lends_Part}
-use denote.Laws.{shows}
-use denote.Memory.{mem, cell_at, part_at, part_of, lone}
-use denote.RattleType.{RattleType}
-use denote.RawPtr.{Ptr, block_ptr, null_ptr, in_a_block}
+use denote.Memory.{part_at}
 use denote.Ref.{MutBor, MutRef, mut_vals, mut_Tells}
-use denote.Signature.{plain, mut_ref_to}
-use denote.Steps.{nothing, opens, peeks}
-use denote.Triple.Walked.{Stays, walk_of, says, stay_dropped, Goes-spent_ref, ends_at}
 use Rattle.std_alloc.proofs.VecSteps.Shapes.{after}
-use Rattle.std_alloc.specs.Box.Ownership.{box_owns}
-use Rattle.palmheap_c.specs.Opened.{Opened}
 use Rattle.palmheap_c.specs.contracts.kept.Held as stores
-use Rattle.palmheap_c.specs.Holding.{frees}
 use Rattle.palmheap_c.specs.Keeping.{with_store}
 use Rattle.palmheap_c.specs.declared.kept.Kept.{Kept}
-use Rattle.palmheap_c.proofs.Values.{Data}
 use Rattle.palmheap_c.proofs.kept.Kept.TheLaws.{lowers}
 use Rattle.palmheap_c.specs.contracts.kept.Kept as kept
 use Rattle.palmheap_c.specs.contracts.kept.Kept.held as f

@@ -1,25 +1,6 @@
 -- `closed` has a null pointer, and owns nothing. Assumes `Logic`.
-use Rattle.std.proofs.Common.{◌≡◌, [], ◌∷◌, refl, lit<}
-use Rattle.std.proofs.raw_atomic.Walks.{proved_at, leaves}
-use Rattle.std.specs.Prelude.{Option, None}
-use mir.Syntax.{Fn}
-use mir.Val.{Val}
-use base.Logic.{SProp, emp}
-use base.Fml.{ftrue}
-use contract.Monad.{fact, fact_i}
-use contract.Running.{tables}
-use types.Kit.{‵, raw, ◌⊛◌, ◌$◌, ◌∵◌, !, qed, by, move, drop, use0, split}
-use types.Part.{agg}
-use types.Run.{lit, no_more, and_then, returns, enter}
-use types.ByLocal.{alloc_all, pass_all, free_all, look_at, sets}
-use denote.RattleType.{owns}
-use denote.RawPtr.{null_ptr}
-use denote.Signature.{types_at}
-use denote.Steps.{nothing}
-use denote.Triple.Entry.{alive}
-use denote.Triple.Walked.{Stays, walk_of}
-use Rattle.palmheap_c.specs.Opened.{Opened}
-use Rattle.palmheap_c.proofs.Values.{word, word_in}
+use Rattle.palmheap_c.proofs.Laws.{◌≡◌, [], ◌∷◌, refl, lit<, proved_at, leaves, Option, None, Fn, Val, SProp, emp, ftrue, fact, fact_i, tables, ‵, raw, ◌⊛◌, ◌$◌, ◌∵◌, !, qed, by, move, use0, split, agg, lit, no_more, and_then, returns, enter, alloc_all, pass_all, free_all, look_at, sets, owns, null_ptr, types_at, nothing, alive, Stays, walk_of, Opened, word, word_in}
+use types.Kit.{drop}
 use Rattle.palmheap_c.specs.contracts.kept.Slot as slot
 use Rattle.palmheap_c.specs.contracts.kept.Slot.closed.{ended, clauses}
 use Rattle.palmheap_c.specs.contracts.kept.Slot.closed.Key.{name as #self}

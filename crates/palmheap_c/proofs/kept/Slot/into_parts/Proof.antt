@@ -1,37 +1,13 @@
 -- `into_parts` takes the pointer out of a `Slot` that holds a store, with what it owns. Assumes `Logic`.
-use Rattle.std.proofs.Common.{◌≡◌, List, [], ◌∷◌, ◌++◌, refl, sym, ap, ◌∙◌, subst}
-use Rattle.std.proofs.raw_atomic.Walks.{proved_at, leaves}
-use mir.Syntax.{Fn}
+use Rattle.palmheap_c.proofs.Laws.{◌≡◌, List, [], ◌∷◌, ◌++◌, refl, sym, ap, ◌∙◌, subst, proved_at, leaves, Fn, Val, vptr, SProp, ent, emp, id⊢, never, fst∗, WpFn, sem, fact, fact_i, tables, ‵, raw, ◌⊛◌, ◌$◌, ◌∵◌, !, qed, by, move, keep, use0, split, suffices, rewrite, fsplit, fsplit3, fjoin, whole, sub, agg, stop, fld, of_opd, no_more, and_then, returns, enter, alloc_all, pass_all, free_all, look_at, get, get_in, sets, RattleType, owns, Ptr, block_ptr, null_ptr, in_a_block, lone, types_at, plain, nothing, heard, alive, Stays, stay_dropped, walk_of, Goes-blank, handle_tells, box_owns, HoldsStore, frees, kept_in, slot_owns, Opened, Option, word, both, told, al, parts_good, parts_in}
 use mir.Raw.{raw as bare}
-use mir.Val.{Val, vptr}
-use base.Logic.{SProp, ent, emp, id⊢, never, fst∗}
-use prog.Wp.{WpFn}
-use types.Logic.{sem}
-use contract.Monad.{fact, fact_i}
-use contract.Running.{tables}
-use types.Kit.{‵, raw, ◌⊛◌, ◌$◌, ◌∵◌, !, qed, by, move, keep, drop, use0, split, suffices, rewrite, fsplit, fsplit3, fjoin}
-use types.Part.{whole, sub, agg}
-use types.Run.{stop, fld, of_opd, no_more, and_then, returns, enter}
-use types.ByLocal.{alloc_all, pass_all, free_all, look_at, get, get_in, sets}
-use denote.RattleType.{RattleType, owns}
-use denote.RawPtr.{Ptr, block_ptr, null_ptr, in_a_block}
-use denote.Memory.{lone}
-use denote.Signature.{types_at, plain}
-use denote.Steps.{nothing, heard}
-use denote.Triple.Entry.{alive}
-use denote.Triple.Walked.{Stays, stay_dropped, walk_of}
-use Rattle.core.proofs.alloc.Calls.{Goes-blank, handle_tells}
-use Rattle.std_alloc.specs.Box.Ownership.{box_owns}
+use types.Kit.{drop}
 use Rattle.std_heap.specs.contracts.Global as heap
 use Rattle.std_heap.specs.contracts.GlobalAllocator.TheImpl as heap_impl
 use Rattle.std_heap.proofs.Global.TheLaws as heap_laws
 use Rattle.palmheap_c.specs.contracts.kept.Held as stores
 use Rattle.palmheap_c.specs.contracts.parts.Parts as parts
 use Rattle.palmheap_c.specs.contracts.kept.Slot as slot
-use Rattle.palmheap_c.proofs.Values.{word, both, told, al, parts_good, parts_in}
-use Rattle.palmheap_c.specs.Holding.{HoldsStore, frees, kept_in, slot_owns}
-use Rattle.palmheap_c.specs.Opened.{Opened}
-use Rattle.std.specs.Prelude.{Option}
 use Rattle.palmheap_c.specs.contracts.kept.Slot.into_parts.{ended, clauses}
 use Rattle.palmheap_c.specs.contracts.kept.Slot.into_parts.Key.{name as #self}
 use Rattle.palmheap_c.proofs.kept.Slot.into_parts.Statement.{statement}

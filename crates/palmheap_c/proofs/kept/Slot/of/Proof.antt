@@ -1,33 +1,12 @@
 -- `of` keeps the pointer, and what it owns. Assumes `Logic`.
-use Rattle.std.proofs.Common.{◌≡◌, List, [], ◌∷◌, ◌++◌, refl, sym, subst}
-use Rattle.std.proofs.raw_atomic.Walks.{proved_at, leaves}
-use mir.Syntax.{Fn}
-use mir.Val.{Val, vptr}
-use base.Logic.{SProp, ent, emp, id⊢}
-use base.Fml.{ftrue}
-use prog.Wp.{WpFn}
-use contract.Monad.{fact, fact_i}
-use contract.Running.{tables}
-use types.Kit.{‵, raw, ◌⊛◌, ◌$◌, ◌∵◌, !, qed, by, move, drop, use0, split, suffices, fsplit, fjoin}
-use types.Part.{whole, sub, agg}
-use types.Run.{stop, fld, of_opd, no_more, and_then, returns, enter}
-use types.ByLocal.{alloc_all, pass_all, free_all, look_at, get, get_in, sets}
-use denote.RattleType.{RattleType, owns}
-use denote.RawPtr.{block_ptr}
-use denote.Signature.{types_at, plain}
-use denote.Steps.{nothing}
-use denote.Triple.Entry.{alive}
-use denote.Triple.Walked.{Stays, stay_dropped, walk_of}
-use Rattle.core.proofs.alloc.Calls.{Goes-blank}
+use Rattle.palmheap_c.proofs.Laws.{◌≡◌, List, [], ◌∷◌, ◌++◌, refl, sym, subst, proved_at, leaves, Fn, Val, vptr, SProp, ent, emp, id⊢, ftrue, WpFn, fact, fact_i, tables, ‵, raw, ◌⊛◌, ◌$◌, ◌∵◌, !, qed, by, move, use0, split, suffices, fsplit, fjoin, whole, sub, agg, stop, fld, of_opd, no_more, and_then, returns, enter, alloc_all, pass_all, free_all, look_at, get, get_in, sets, RattleType, owns, block_ptr, types_at, plain, nothing, alive, Stays, stay_dropped, walk_of, Goes-blank, Opened, Option, Some, both, parts_good, parts_out, word, word_in}
+use types.Kit.{drop}
 use Rattle.std_heap.specs.contracts.Global as heap
 use Rattle.std_heap.specs.contracts.GlobalAllocator.TheImpl as heap_impl
 use Rattle.std_heap.proofs.Global.TheLaws as heap_laws
 use Rattle.palmheap_c.specs.contracts.kept.Held as stores
 use Rattle.palmheap_c.specs.contracts.kept.Slot as slot
-use Rattle.palmheap_c.specs.Opened.{Opened}
-use Rattle.std.specs.Prelude.{Option, Some}
 use Rattle.palmheap_c.specs.contracts.parts.Parts as parts
-use Rattle.palmheap_c.proofs.Values.{both, parts_good, parts_out, word, word_in}
 use Rattle.palmheap_c.specs.contracts.kept.Slot.of.{ended, clauses}
 use Rattle.palmheap_c.specs.contracts.kept.Slot.of.Key.{name as #self}
 use Rattle.palmheap_c.proofs.kept.Slot.of.Statement.{statement}

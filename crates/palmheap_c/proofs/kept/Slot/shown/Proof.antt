@@ -1,37 +1,8 @@
 -- `shown` copies the pointer, and keeps the place as it is. Assumes `Logic`.
-use Rattle.std.proofs.Common.{◌≡◌, ◌⊎◌, List, [], ◌∷◌, ◌++◌, refl, sym, lit<, inl, inr}
-use Rattle.std.proofs.raw_atomic.Walks.{proved_at, leaves}
-use Rattle.std.specs.Prelude.{Option, Some, None}
-use mir.Syntax.{Fn}
+use Rattle.palmheap_c.proofs.Laws.{◌≡◌, ◌⊎◌, List, [], ◌∷◌, ◌++◌, refl, sym, lit<, inl, inr, proved_at, leaves, Option, Some, None, Fn, Val, vptr, vnull, vstruct, vcons, vnil, SProp, ent, emp, guard, guard_i, never, fst∗, snd∗, via, full_share, WpFn, fact, fact_i, fact_use, tables, Logic, sem, ‵, raw, ◌⊛◌, prop, ◌$◌, ◌∵◌, !, qed, by, move, use0, use1, learn, rewrite, split, regoal, fsplit, fjoin, feq_i, fpack, whole, sub, agg, stop, fld, of_opd, no_more, and_then, returns, enter, alloc_all, pass_all, free_all, look_at, get, get_in, sets, RattleType, owns, Valss, lone, Ptr, RawPtr, InBlock, Testable, block_ptr, null_ptr, in_a_block, lies_at, types_at, plain, nothing, heard, shape, within, tuple_type, alive, Stays, stay_dropped, walk_of, Ura, Goes-blank, box_owns, Opened, IsNullIfClosed, HoldsStore, frees, kept_in, slot_owns, word, told, word_in}
 use mir.Raw.{raw as bare}
-use mir.Val.{Val, vptr, vnull, vstruct, vcons, vnil}
-use base.Logic.{SProp, ent, emp, guard, guard_i, never, fst∗, snd∗, via}
-use base.Fraction.{full_share}
-use prog.Wp.{WpFn}
-use contract.Monad.{fact, fact_i, fact_use}
-use contract.Running.{tables}
-use types.Logic.{Logic, sem}
-use types.Kit.{‵, raw, given, ◌⊛◌, prop, ◌$◌, ◌∵◌, !, qed, by, move, drop, use0, use1, learn, rewrite, split, regoal, fsplit, fjoin, feq_i, fpack}
-use types.Part.{whole, sub, agg}
-use types.Run.{stop, fld, of_opd, no_more, and_then, returns, enter}
-use types.ByLocal.{alloc_all, pass_all, free_all, look_at, get, get_in, sets}
-use denote.RattleType.{RattleType, owns, Valss}
-use denote.Memory.{lone}
-use denote.RawPtr.{Ptr, RawPtr, InBlock, Testable, block_ptr, null_ptr, in_a_block, lies_at}
-use denote.Signature.{types_at, plain}
-use denote.Steps.{nothing, heard}
-use denote.Struct.Declared.{shape}
-use denote.Struct.Struct.{within}
-use denote.Struct.Tuple.{tuple_type}
-use denote.Triple.Entry.{alive}
-use denote.Triple.Walked.{Stays, stay_dropped, walk_of}
-use seplogic.Ra.Ura.{Ura}
-use Rattle.core.proofs.alloc.Calls.{Goes-blank}
+use types.Kit.{given, drop}
 use Rattle.std.proofs.GlobalToken.{dealloc_token-Testable}
-use Rattle.std_alloc.specs.Box.Ownership.{box_owns}
-use Rattle.palmheap_c.proofs.Values.{word, told, word_in}
-use Rattle.palmheap_c.specs.Opened.{Opened}
-use Rattle.palmheap_c.specs.Holding.{IsNullIfClosed, HoldsStore, frees, kept_in, slot_owns}
 use Rattle.palmheap_c.specs.contracts.kept.Held as stores
 use Rattle.palmheap_c.specs.contracts.kept.Slot as slot
 use Rattle.palmheap_c.specs.contracts.kept.Slot.shown.{ended, clauses}

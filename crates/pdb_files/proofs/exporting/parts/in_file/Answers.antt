@@ -1,8 +1,5 @@
-use Rattle.std.proofs.Common.{ℕ, ap, ◌∙◌}
-use Rattle.heap_model.specs.Store.{bytes_named}
-use Rattle.heap_model.specs.Files.{block_offset}
+use Rattle.pdb_files.proofs.Laws.{ℕ, ap, ◌∙◌, bytes_named, block_offset, entry_in_file}
 use Rattle.db_format.specs.EitherEntry.{entry_of}
-use Rattle.pdb_files.proofs.Contents.{entry_in_file}
 use Rattle.pdb_files.proofs.exporting.parts.in_file.Goals as goal
 
 pub returns-clause-is : goal.returns-clause-is

@@ -1,16 +1,4 @@
-use Rattle.std.proofs.Common.{ℕ, false, List, ◌++◌, Option, refl, ap, sym, ◌∙◌}
-use Rattle.std.specs.Prelude.{is_ok}
-use Rattle.heap_model.specs.Database.{Database}
-use Rattle.heap_model.specs.Meaning.{ChunkMap}
-use Rattle.heap_model.specs.Store.{store_of}
-use Rattle.heap_model.specs.Files.{block_bytes}
-use Rattle.palm_text.proofs.Parts.{then, stops}
-use Rattle.pdb_format.specs.FileTexts.{data_text}
-use Rattle.pdb_files.specs.FileParts.{content_of}
-use Rattle.pdb_files.proofs.Contents.{app_block, sort_block}
-use Rattle.pdb_format.specs.FileTexts.{blocks_text}
-use Rattle.pdb_files.proofs.FileTexts.{failed, as_blocks}
-use Rattle.pdb_files.proofs.OwnBlocks.{app_own, sort_own}
+use Rattle.pdb_files.proofs.Laws.{ℕ, false, List, ◌++◌, Option, refl, ap, sym, ◌∙◌, is_ok, Database, ChunkMap, store_of, block_bytes, then, stops, data_text, content_of, blocks_text, app_block, sort_block, failed, as_blocks, app_own, sort_own}
 use Rattle.pdb_files.proofs.exporting.parts.put_blocks.Goals as goal
 
 pub block-requires : goal.block-requires

@@ -1,10 +1,4 @@
-use Rattle.std.proofs.Common.{◌<◌, ◌≤◌, arith, true, false}
-use Rattle.heap_model.specs.Database.{entry_count_in}
-use Rattle.heap_model.specs.Store.{store_of}
-use Rattle.pdb_format.specs.FileTexts.{data_text}
-use Rattle.pdb_files.specs.FileParts.{content_of}
-use Rattle.pdb_files.proofs.FileTexts.{failed, then_data, stops_data, no_data}
-use Rattle.pdb_files.proofs.OwnBlocks.{entry_own}
+use Rattle.pdb_files.proofs.Laws.{◌<◌, ◌≤◌, arith, true, false, entry_count_in, store_of, data_text, content_of, failed, then_data, stops_data, no_data, entry_own}
 use Rattle.pdb_files.proofs.exporting.parts.put_data.Goals as goal
 
 pub block-requires : goal.block-requires

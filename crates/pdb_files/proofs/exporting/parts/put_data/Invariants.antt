@@ -1,7 +1,4 @@
-use Rattle.std.proofs.Common.{Bool, drop}
-use Rattle.palm_text.specs.Counted.{Writing, Writes}
-use Rattle.pdb_format.specs.FileTexts.{data_text}
-use Rattle.pdb_files.specs.FileParts.{content_of}
+use Rattle.pdb_files.proofs.Words.{Bool, drop, Writing, Writes, data_text, content_of}
 use Rattle.pdb_files.proofs.exporting.parts.put_data.Given as goal
 
 -- whatever is written from here on completes the data

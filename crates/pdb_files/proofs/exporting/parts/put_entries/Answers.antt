@@ -1,12 +1,4 @@
-use Rattle.std.proofs.Common.{◌≡◌, ◌<◌, ◌≤◌, arith, true, false, ◌∙◌, ap}
-use Rattle.heap_model.specs.Database.{entry_data, entry_bytes, entry_count_in, entry_in}
-use Rattle.heap_model.specs.Meaning.{ChunkMap}
-use Rattle.heap_model.specs.Store.{bytes_named, store_of}
-use Rattle.heap_model.specs.Files.{block_size}
-use Rattle.pdb_format.specs.FileTexts.{entries_text}
-use Rattle.pdb_files.specs.FileParts.{content_of, file_entry}
-use Rattle.pdb_files.proofs.FileTexts.{failed, size_from, then_entry, stops_entry, no_entry}
-use Rattle.pdb_files.proofs.OwnBlocks.{entry_own}
+use Rattle.pdb_files.proofs.Laws.{◌≡◌, ◌<◌, ◌≤◌, arith, true, false, ◌∙◌, ap, entry_data, entry_bytes, entry_count_in, entry_in, ChunkMap, bytes_named, store_of, block_size, entries_text, content_of, file_entry, failed, size_from, then_entry, stops_entry, no_entry, entry_own}
 use Rattle.pdb_files.proofs.exporting.parts.put_entries.Goals as goal
 
 pub block_size-size-requires-clause-own : goal.block_size-size-requires-clause-own

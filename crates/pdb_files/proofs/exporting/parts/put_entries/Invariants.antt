@@ -1,7 +1,4 @@
-use Rattle.std.proofs.Common.{◌≡◌, ◌+◌, Bool, length, drop}
-use Rattle.palm_text.specs.Counted.{Writing, Writes}
-use Rattle.pdb_format.specs.FileTexts.{entries_text, data_text}
-use Rattle.pdb_files.specs.FileParts.{content_of}
+use Rattle.pdb_files.proofs.Words.{◌≡◌, ◌+◌, Bool, length, drop, Writing, Writes, entries_text, data_text, content_of}
 use Rattle.pdb_files.proofs.exporting.parts.put_entries.Given as goal
 
 -- the data of the entries that are left has room, and whatever is written from here on completes

@@ -1,13 +1,4 @@
-use Rattle.std.proofs.Common.{ℕ, false, List, [], ◌∷◌, ◌++◌, Option, refl, arith}
-use Rattle.std.specs.Prelude.{is_ok}
-use Rattle.heap_model.specs.Database.{Database}
-use Rattle.heap_model.specs.Files.{file_of}
-use Rattle.palm_text.proofs.Parts.{then, stops}
-use Rattle.pdb_format.specs.FileTexts.{data_at, header_text, entries_text}
-use Rattle.pdb_files.specs.FileParts.{content_of}
-use Rattle.pdb_format.proofs.FileParts.{size_parts}
-use Rattle.pdb_format.specs.FileTexts.{blocks_text}
-use Rattle.pdb_files.proofs.FileTexts.{failed, as_file}
+use Rattle.pdb_files.proofs.Laws.{ℕ, false, List, [], ◌∷◌, ◌++◌, Option, refl, arith, is_ok, Database, file_of, then, stops, data_at, header_text, entries_text, content_of, size_parts, blocks_text, failed, as_file}
 use Rattle.pdb_files.proofs.exporting.parts.put_file.Goals as goal
 
 pub put_entries-requires-clause-short : goal.put_entries-requires-clause-short

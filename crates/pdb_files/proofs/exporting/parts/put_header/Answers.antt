@@ -1,11 +1,4 @@
-use Rattle.std.proofs.Common.{ℕ, List, Option, subst}
-use Rattle.std.specs.Prelude.{is_ok}
-use Rattle.palm_text.specs.Counted.{Writes}
-use Rattle.heap_model.specs.Database.{Database, database_in}
-use Rattle.heap_model.specs.Store.{store_of}
-use Rattle.heap_model.specs.Files.{idle, with_offsets, first_block}
-use Rattle.pdb_files.specs.FileParts.{content_of}
-use Rattle.pdb_files.proofs.Contents.{header_placed}
+use Rattle.pdb_files.proofs.Laws.{ℕ, List, Option, subst, is_ok, Writes, Database, database_in, store_of, idle, with_offsets, first_block, content_of, header_placed}
 use Rattle.pdb_files.proofs.exporting.parts.put_header.Goals as goal
 
 pub returns : goal.returns

@@ -1,12 +1,5 @@
-use Rattle.std.proofs.Common.{◌<◌, ◌≤◌, List, length, arith, ap}
-use Rattle.heap_model.specs.Database.{entry_count_in, database_in}
-use Rattle.heap_model.specs.Store.{store_of}
-use Rattle.pdb_format.specs.FileTexts.{data_text}
-use Rattle.pdb_files.specs.FileParts.{content_of}
-use Rattle.pdb_format.proofs.FileParts.{size_parts}
-use Rattle.pdb_files.proofs.FileTexts.{size_from, none_left}
+use Rattle.pdb_files.proofs.Laws.{◌<◌, ◌≤◌, List, length, arith, ap, entry_count_in, database_in, store_of, data_text, content_of, size_parts, size_from, none_left, entry_own}
 use Rattle.pdb_files.proofs.FileLengths.{length-file_of}
-use Rattle.pdb_files.proofs.OwnBlocks.{entry_own}
 use Rattle.pdb_files.proofs.exporting.places.file_size.Goals as goal
 
 pub loop-index-init : goal.loop-index-init

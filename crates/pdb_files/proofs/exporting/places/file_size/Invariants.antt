@@ -1,7 +1,4 @@
-use Rattle.std.proofs.Common.{◌≡◌, ◌+◌, length, drop}
-use Rattle.pdb_format.specs.Writable.{file_size}
-use Rattle.pdb_format.specs.FileTexts.{data_text}
-use Rattle.pdb_files.specs.FileParts.{content_of}
+use Rattle.pdb_files.proofs.Words.{◌≡◌, ◌+◌, length, drop, file_size, data_text, content_of}
 use Rattle.pdb_files.proofs.exporting.places.file_size.Given as goal
 
 -- the data that is left makes the size whole

@@ -1,12 +1,4 @@
-use Rattle.std.proofs.Common.{◌≡◌, ℕ, ◌+◌, List, Option, arith, sym, ap, ◌∙◌}
-use Rattle.heap_model.specs.Database.{Database}
-use Rattle.heap_model.specs.Meaning.{ChunkMap}
-use Rattle.heap_model.specs.Store.{store_of}
-use Rattle.heap_model.specs.Files.{block_size, first_block}
-use Rattle.pdb_files.specs.FileParts.{block_under, content_of}
-use Rattle.pdb_files.proofs.Contents.{app_block, sort_block, same_offset}
-use Rattle.pdb_format.proofs.FileParts.{size_parts}
-use Rattle.pdb_files.proofs.OwnBlocks.{app_own, sort_own}
+use Rattle.pdb_files.proofs.Laws.{◌≡◌, ℕ, ◌+◌, List, Option, arith, sym, ap, ◌∙◌, Database, ChunkMap, store_of, block_size, first_block, block_under, content_of, size_parts, app_block, sort_block, same_offset, app_own, sort_own}
 use Rattle.pdb_files.proofs.exporting.places.find_places.Goals as goal
 
 pub block_size-requires-clause-own : goal.block_size-requires-clause-own

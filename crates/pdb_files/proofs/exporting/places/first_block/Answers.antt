@@ -1,8 +1,5 @@
-use Rattle.std.proofs.Common.{◌∙◌, sym, ap, Bool}
-use Rattle.heap_model.specs.Database.{resources_in}
-use Rattle.heap_model.specs.Store.{store_of}
+use Rattle.pdb_files.proofs.Laws.{◌∙◌, sym, ap, Bool, resources_in, store_of, first_block_is}
 use Rattle.pdb_format.specs.Filler.{first_place_after}
-use Rattle.pdb_files.proofs.Contents.{first_block_is}
 use Rattle.pdb_files.proofs.exporting.places.first_block.Goals as goal
 
 pub returns : goal.returns

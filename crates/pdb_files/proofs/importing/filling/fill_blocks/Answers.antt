@@ -1,16 +1,5 @@
 -- The blocks before the index are in their chunks.
-use Rattle.std.proofs.Common.{◌≡◌, ◌+◌, ◌<◌, ℕ, List, Option, Some, None, length, map, get_or, sym, ap, subst, ◌∙◌, arith, rules}
-use Rattle.std.specs.Prelude.{slice_range}
-use Rattle.std.proofs.lemmas.List.{length-map, get_or-map}
-use Rattle.heap_model.specs.Memory.{Memory}
-use Rattle.heap_model.specs.EntrySteps.{LeavesStore}
-use Rattle.heap_model.specs.Store.{store_of}
-use Rattle.heap_model.specs.declared.names.Name.{Name}
-use Rattle.pdb_format.specs.Blocks.{bytes_at}
-use Rattle.pdb_format.specs.declared.blocks.Block.{Block}
-use Rattle.palm_store.specs.Files.{HasDataOf, data_filled}
-use Rattle.palm_store.specs.WholeDatabases.{numbers_in}
-use Rattle.pdb_files.proofs.FilledChunks.{IsFilling, next_data, none_yet, one_more, none_more}
+use Rattle.pdb_files.proofs.Laws.{◌≡◌, ◌+◌, ◌<◌, ℕ, List, Option, Some, None, length, map, get_or, sym, ap, subst, ◌∙◌, arith, rules, slice_range, length-map, get_or-map, Memory, LeavesStore, store_of, Name, bytes_at, Block, HasDataOf, data_filled, numbers_in, IsFilling, next_data, none_yet, one_more, none_more}
 use Rattle.pdb_files.proofs.importing.filling.fill_blocks.Goals as goal
 use Rattle.pdb_files.proofs.importing.filling.fill_blocks.Goals.{in-Some, in_default}
 

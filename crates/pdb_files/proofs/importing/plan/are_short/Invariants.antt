@@ -1,6 +1,4 @@
-use Rattle.std.proofs.Common.{ℕ, ◌<◌, Option, slice_index_or}
-use Rattle.pdb_format.specs.declared.blocks.Block.{Block}
-use Rattle.pdb_files.specs.Plans.{IsShort}
+use Rattle.pdb_files.proofs.Words.{ℕ, ◌<◌, Option, slice_index_or, Block, IsShort}
 use Rattle.pdb_files.proofs.importing.plan.are_short.Given as goal
 
 abbrev pub invariant-loop-index : goal.invariant-loop-index

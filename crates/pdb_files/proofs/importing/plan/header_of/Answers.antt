@@ -1,7 +1,4 @@
-use Rattle.std.proofs.Common.{sym, ap, subst, ◌∙◌}
-use Rattle.heap_model.specs.Database.{IsDatabaseName}
-use Rattle.heap_model.specs.declared.database.DbInfo.{DbInfo}
-use Rattle.palm_store.specs.WholeDatabases.{header_asked}
+use Rattle.pdb_files.proofs.Words.{sym, ap, subst, ◌∙◌, IsDatabaseName, DbInfo, header_asked}
 use Rattle.pdb_files.proofs.importing.plan.header_of.Goals as goal
 
 pub returns-clause-header : goal.returns-clause-header

@@ -1,8 +1,5 @@
 -- Each entry of the file is planned after those before it.
-use Rattle.std.proofs.Common.{◌+◌, List, sym, subst, arith}
-use Rattle.palm_store.specs.WholeDatabases.{WholeEntry}
-use Rattle.pdb_files.specs.Plans.{ArePlannedOf}
-use Rattle.pdb_format.proofs.FileBlocks.{length-blocks, size_at}
+use Rattle.pdb_files.proofs.Words.{◌+◌, List, sym, subst, arith, WholeEntry, ArePlannedOf, length-blocks, size_at}
 use Rattle.pdb_files.proofs.Planned.{one_more}
 use Rattle.pdb_files.proofs.importing.plan.plan_entries.Goals as goal
 

@@ -1,8 +1,4 @@
-use Rattle.std.proofs.Common.{ℕ, List, sym, subst}
-use Rattle.heap_model.specs.Database.{entry_count_in}
-use Rattle.pdb_format.specs.ReadFiles.{HasIdsFor}
-use Rattle.pdb_files.specs.Plans.{ArePlannedOf}
-use Rattle.pdb_format.proofs.FileIds.{ids_for}
+use Rattle.pdb_files.proofs.Words.{ℕ, List, sym, subst, entry_count_in, HasIdsFor, ArePlannedOf, ids_for}
 use Rattle.pdb_files.proofs.Plans.{planned}
 use Rattle.pdb_files.proofs.importing.plan.read_plan.Goals as goal
 
