@@ -8,7 +8,8 @@ invariant-loop-text g l = record {
   room : 0 < length l.turn;
   longer : vec_len l.fn.text ≤ vec_len l.text;
   more : StartsWith l.text.items l.fn.text.items;
-  kept : Keeps (prepend_known l.fn.text.items (g.R.Read.remaining l.fn.reader)) (prepend_known l.text.items (g.R.Read.remaining l.reader));
+  kept : Keeps (prepend_known l.fn.text.items (g.R.Read.remaining l.fn.reader))
+      (prepend_known l.text.items (g.R.Read.remaining l.reader));
 }
 
 abbrev pub decreases-loop-text : goal.decreases-loop-text

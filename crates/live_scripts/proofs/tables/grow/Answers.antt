@@ -4,4 +4,5 @@ use Rattle.live_scripts.proofs.tables.grow.Goals as goal
 
 -- the new item stands for no binding
 pub loop-unbound-preserved : goal.loop-unbound-preserved
-loop-unbound-preserved g c = rw c.in_ok-push.ensures.items (table_grown c.loop-unbound.items.items c.args.unbound ∙ c.loop-unbound.invariant)
+loop-unbound-preserved g c = rw c.in_ok-push.ensures.items
+    (table_grown c.loop-unbound.items.items c.args.unbound ∙ c.loop-unbound.invariant)

@@ -5,4 +5,5 @@ pub returns-in-Ok-clause-does : goal.returns-in-Ok-clause-does
 returns-in-Ok-clause-does c = is_done (rw c.as_mut.ensures.value at c.in-Ok.ensures.does) refl
 
 pub returns-in-Err-clause-short : goal.returns-in-Err-clause-short
-returns-in-Err-clause-short c = λ e. c.in-Err.ensures.no_memory (ap (λ (r : Refusal). Err r) (is_no_memory c.in-Err.refusal (sym c.refused.ensures.is ∙ e)))
+returns-in-Err-clause-short c = λ e. c.in-Err.ensures.no_memory
+    (ap (λ (r : Refusal). Err r) (is_no_memory c.in-Err.refusal (sym c.refused.ensures.is ∙ e)))

@@ -5,10 +5,13 @@ use Rattle.palmheap_c.proofs.AnswerLaws.{image_refused}
 use Rattle.palmheap_c.proofs.images.check_region.Goals as goal
 
 pub check_store_with-requires-clause-enough : goal.check_store_with-requires-clause-enough
-check_store_with-requires-clause-enough c = subst (λ (n : ℕ). AreEnoughBits c.args.region.now.bytes n) (sym (ap length c.deref_mut.ensures.value)) c.in-Ok.ensures.enough
+check_store_with-requires-clause-enough c =
+    subst (λ (n : ℕ). AreEnoughBits c.args.region.now.bytes n)
+    (sym (ap length c.deref_mut.ensures.value)) c.in-Ok.ensures.enough
 
 pub check_store_with-requires-clause-none : goal.check_store_with-requires-clause-none
-check_store_with-requires-clause-none c = subst HasNone (sym c.deref_mut.ensures.value) c.in-Ok.ensures.none
+check_store_with-requires-clause-none c =
+    subst HasNone (sym c.deref_mut.ensures.value) c.in-Ok.ensures.none
 
 pub returns-clause-refused : goal.returns-clause-refused
 returns-clause-refused c =

@@ -5,7 +5,10 @@ use Rattle.palmheap_c.proofs.loans.palmheap_put_back.Goals as goal
 
 pub returns-clause-holds : goal.returns-clause-holds
 returns-clause-holds c = λ none.
-    let named : c.of-back.result.name.0 ≡ c.args.loan.now.name = ap (λ (l : OnLoan). l.name.0) c.of-back.ensures ∙ ap (λ (k : KeptLoan). k.name) c.replace-part.ensures.value in
-    puts_keep c.args.store.now.store (record { memory = c.put_back.new.self; pointers = c.args.store.now.store.pointers }) c.of-back.result
-    (subst (λ (m : Memory). PutsBackInStore m c.put_back.new.self c.of-back.result) c.as_mut.ensures.value c.put_back.ensures.back)
+    let named : c.of-back.result.name.0 ≡ c.args.loan.now.name = ap (λ (l : OnLoan). l.name.0)
+    c.of-back.ensures ∙ ap (λ (k : KeptLoan). k.name) c.replace-part.ensures.value in
+    puts_keep c.args.store.now.store
+    (record { memory = c.put_back.new.self; pointers = c.args.store.now.store.pointers })
+    c.of-back.result (subst (λ (m : Memory). PutsBackInStore m c.put_back.new.self c.of-back.result)
+    c.as_mut.ensures.value c.put_back.ensures.back)
     (subst (λ (n : ℕ). pinned c.args.store.now.store.pointers n ≡ None) (sym named) none) refl

@@ -6,5 +6,6 @@ use Rattle.palmheap_c.proofs.writing.add_entries.Given as goal
 abbrev pub invariant-loop-entry : goal.invariant-loop-entry
 invariant-loop-entry l = record {
   good : IsListed l.listed;
-  added : database_listed l.listed ≡ with_all (database_listed l.initial.listed) l.resources (take l.entry-index l.entries);
+  added : database_listed l.listed
+      ≡ with_all (database_listed l.initial.listed) l.resources (take l.entry-index l.entries);
 }

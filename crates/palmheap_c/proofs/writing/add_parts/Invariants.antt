@@ -3,4 +3,5 @@ use Rattle.palmheap_c.proofs.writing.add_parts.Given as goal
 
 -- the parts of the entries so far are added
 abbrev pub invariant-loop-entry : goal.invariant-loop-entry
-invariant-loop-entry l = l.parts.items ≡ l.initial.parts.items ++ map (part_from_c l.bytes) (take l.entry-index l.entries)
+invariant-loop-entry l = l.parts.items
+    ≡ l.initial.parts.items ++ map (part_from_c l.bytes) (take l.entry-index l.entries)

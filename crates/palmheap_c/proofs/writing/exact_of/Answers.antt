@@ -8,9 +8,12 @@ returns-in-Err-NoFile-clause-err c =
     inl (
       refl,
       inr (inr (inr (inl (
-          subst (λ (after : List ℕ). IsNoExactFile (named_database (given_by c.args.given.now)) after c.args.given.now.order.now) c.after_name.ensures
-          (subst (λ (d : Database (Option (List ℕ))). IsNoExactFile d c.after_name.result.now c.args.given.now.order.now) c.requires.database none))))),
+          subst (λ (after : List ℕ). IsNoExactFile (named_database (given_by c.args.given.now))
+          after c.args.given.now.order.now) c.after_name.ensures
+          (subst (λ (d : Database (Option (List ℕ))). IsNoExactFile d c.after_name.result.now
+          c.args.given.now.order.now) c.requires.database none))))),
     )
 
 pub returns-in-Err-OutOfMemory-clause-err : goal.returns-in-Err-OutOfMemory-clause-err
-returns-in-Err-OutOfMemory-clause-err c = inr (inr (refl, c.list_exact.ensures.short (let what = c.in-Err-OutOfMemory.is in cc)))
+returns-in-Err-OutOfMemory-clause-err c =
+    inr (inr (refl, c.list_exact.ensures.short (let what = c.in-Err-OutOfMemory.is in cc)))

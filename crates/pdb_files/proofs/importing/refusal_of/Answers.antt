@@ -6,4 +6,5 @@ use Rattle.pdb_files.proofs.importing.refusal_of.Goals as goal
 pub returns-in-BadFile-clause-does : goal.returns-in-BadFile-clause-does
 returns-in-BadFile-clause-does c =
     let first = subst (IsOpenFault c.args.file.now) c.in-BadFile.is c.requires in
-    refused c.args.store.now (calls.File (Import c.args.file.now)) _ (search rules) (front_brings c.args.store.now c.args.file.now _ (fault_brings c.args.file.now c.in-BadFile.fault _ first))
+    refused c.args.store.now (calls.File (Import c.args.file.now)) _ (search rules) (front_brings
+    c.args.store.now c.args.file.now _ (fault_brings c.args.file.now c.in-BadFile.fault _ first))

@@ -16,13 +16,13 @@ check_new-requires c =
     omega (arith, short, is)
 
 pub returns-in-Ok : goal.returns-in-Ok
-returns-in-Ok c =
-    no_memory_left c.args.store.now c.args.file.now c.check_new.ensures.accepted c.requires
-    (subst (λ (name : List ℕ). IsTaken (store_of c.args.store.now.bytes) 0 name → ⊥) c.name_in.ensures c.in-Ok.ensures.free) c.in-Ok.ensures.few
+returns-in-Ok c = no_memory_left c.args.store.now c.args.file.now c.check_new.ensures.accepted
+    c.requires (subst (λ (name : List ℕ). IsTaken (store_of c.args.store.now.bytes) 0 name → ⊥)
+    c.name_in.ensures c.in-Ok.ensures.free) c.in-Ok.ensures.few
 
 pub returns-in-Err : goal.returns-in-Err
-returns-in-Err c =
-    refused c.args.store.now (calls.File (Import c.args.file.now)) c.in-Err.refusal c.check_new.ensures.accepted
-    (front_brings c.args.store.now c.args.file.now c.in-Err.refusal
+returns-in-Err c = refused c.args.store.now (calls.File (Import c.args.file.now)) c.in-Err.refusal
+    c.check_new.ensures.accepted (front_brings c.args.store.now c.args.file.now c.in-Err.refusal
     (good_brings c.args.file.now _ c.in-Err.refusal c.requires
-    (subst (λ (name : List ℕ). FirstBrings (checks_of_new c.args.store.now.bytes name) c.in-Err.refusal) c.name_in.ensures c.in-Err.ensures.why)))
+    (subst (λ (name : List ℕ). FirstBrings (checks_of_new c.args.store.now.bytes name)
+    c.in-Err.refusal) c.name_in.ensures c.in-Err.ensures.why)))

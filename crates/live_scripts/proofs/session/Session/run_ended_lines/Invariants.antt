@@ -6,7 +6,9 @@ abbrev pub invariant-loop-cut : goal.invariant-loop-cut
 invariant-loop-cut g l = record {
   front : List ℕ;
   parts : l.text ≡ front ++ l.rest;
-  runs : RunsOn (setting (g.A.Allowance.is_short l.memory) l.inputs.files.now) front (live_state l.fn.self l.fn.store) (live_state l.self l.store) (output g.W.Write.contents l.fn.out l.out);
+  runs : RunsOn (setting (g.A.Allowance.is_short l.memory) l.inputs.files.now) front
+      (live_state l.fn.self l.fn.store) (live_state l.self l.store)
+      (output g.W.Write.contents l.fn.out l.out);
   count : l.self.count ≤ l.fn.self.count + length front;
   stays : LoanStays l.fn.store l.store;
 }

@@ -19,11 +19,12 @@ closed_spec 𝓤 𝓛 𝓜 𝓡 wired =
     let Post : Val → SProp 𝓤 = (walk_of 𝓛 ended stays c).post z in
     let none : Option Opened = None in
     let made : slot.the_row.Denot = record { at = null_ptr; store = none } in
-    qed 𝓛 ((raw (alive 𝓛 ended.signature z.0.0 z.0.1) ⊛ ‵ (owns (types_at ended.signature.params z.0.0) z.0.3 z.0.4)) ∷ ‵ ftrue ∷ []) ∵ move ! (1 ∷ []) $ drop ! $ split ! $ move ! (1 ∷ []) $ drop ! $
-    enter ! C Λ fn [] Post $
-    alloc_all ! (λ l. pass_all ! refl tt $
-    sets ! (agg ! (and_then ! (lit ! tt) (no_more !))) refl (tt, (record { fits = lit< tt }, tt)) $
-    returns ! (look_at ! 0 refl) $ free_all ! refl $
-    nothing ! $ word_in ! null_ptr none $
-    use0 𝓛 (raw (fact 𝓤 ((none ≡ none) × (null_ptr ≡ null_ptr)))) (fact_i 𝓤 ((none ≡ none) × (null_ptr ≡ null_ptr)) (emp 𝓤) (refl, refl)) $
-    nothing ! $ move ! (3 ∷ 0 ∷ 2 ∷ 1 ∷ []) $ by ! (leaves 𝓛 ended stays c z (word null_ptr) made tt tt)))
+    qed 𝓛 ((raw (alive 𝓛 ended.signature z.0.0 z.0.1) ⊛ ‵
+    (owns (types_at ended.signature.params z.0.0) z.0.3 z.0.4)) ∷ ‵ ftrue ∷ []) ∵ move ! (1 ∷ [])
+    $ drop ! $ split ! $ move ! (1 ∷ []) $ drop ! $ enter ! C Λ fn [] Post
+    $ alloc_all ! (λ l. pass_all ! refl tt
+    $ sets ! (agg ! (and_then ! (lit ! tt) (no_more !))) refl (tt, (record { fits = lit< tt }, tt))
+    $ returns ! (look_at ! 0 refl) $ free_all ! refl $ nothing ! $ word_in ! null_ptr none
+    $ use0 𝓛 (raw (fact 𝓤 ((none ≡ none) × (null_ptr ≡ null_ptr))))
+    (fact_i 𝓤 ((none ≡ none) × (null_ptr ≡ null_ptr)) (emp 𝓤) (refl, refl)) $ nothing !
+    $ move ! (3 ∷ 0 ∷ 2 ∷ 1 ∷ []) $ by ! (leaves 𝓛 ended stays c z (word null_ptr) made tt tt)))

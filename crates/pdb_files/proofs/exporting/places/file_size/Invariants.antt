@@ -3,4 +3,6 @@ use Rattle.pdb_files.proofs.exporting.places.file_size.Given as goal
 
 -- the data that is left makes the size whole
 abbrev pub invariant-loop-index : goal.invariant-loop-index
-invariant-loop-index l = l.size + length (data_text (drop l.index (content_of l.store.bytes l.bytes).entries)) ≡ file_size (content_of l.store.bytes l.bytes)
+invariant-loop-index l =
+    l.size + length (data_text (drop l.index (content_of l.store.bytes l.bytes).entries))
+    ≡ file_size (content_of l.store.bytes l.bytes)

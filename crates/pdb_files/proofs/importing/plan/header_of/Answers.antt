@@ -5,7 +5,9 @@ pub returns-clause-header : goal.returns-clause-header
 returns-clause-header c = ap header_asked c.info.ensures ∙ c.header_with_seed.ensures.values
 
 pub returns-clause-entry_count : goal.returns-clause-entry_count
-returns-clause-entry_count c = ap (λ (info : DbInfo). info.entry_count) c.info.ensures ∙ c.header_with_seed.ensures.entry_count
+returns-clause-entry_count c =
+    ap (λ (info : DbInfo). info.entry_count) c.info.ensures ∙ c.header_with_seed.ensures.entry_count
 
 pub returns-clause-name : goal.returns-clause-name
-returns-clause-name c = subst IsDatabaseName (sym (ap (λ (info : DbInfo). info.name) c.info.ensures)) c.header_with_seed.ensures.name
+returns-clause-name c = subst IsDatabaseName
+    (sym (ap (λ (info : DbInfo). info.name) c.info.ensures)) c.header_with_seed.ensures.name
