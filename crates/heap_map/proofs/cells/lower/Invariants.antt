@@ -3,6 +3,8 @@ use Rattle.heap_map.proofs.cells.lower.Given as goal
 
 abbrev pub invariant-loop-k : goal.invariant-loop-k
 invariant-loop-k l = record {
-  inside : (j : ℕ) → l.first ≤ j → j < l.k → slice_index l.marks j ≡ min l.mark (slice_index l.initial.marks j);
-  outside : (j : ℕ) → (j < l.first) ⊎ (l.k ≤ j) → slice_index l.marks j ≡ slice_index l.initial.marks j;
+  inside : (j : ℕ) → l.first ≤ j → j < l.k
+      → slice_index l.marks j ≡ min l.mark (slice_index l.initial.marks j);
+  outside : (j : ℕ) → (j < l.first) ⊎ (l.k ≤ j)
+      → slice_index l.marks j ≡ slice_index l.initial.marks j;
 }
