@@ -4,11 +4,13 @@ pub use Rattle.canonical_file.specs.Canonical.{most_bytes}
 pub use Rattle.chunk_format.specs.Blank.{IsBlank, IsRegionSize, LeavesRoom}
 pub use Rattle.core.proofs.alloc.Calls.{Al, Goes-blank, handle_tells, token}
 pub use Rattle.file_parts.proofs.ExactSpelled.{bytes_are, placed_well, size_is}
-pub use Rattle.file_parts.specs.Exact.{ExactFile, IsExactly, exact_bytes, exact_database, exact_entry, exact_in, exact_size, is_misplaced}
+unfoldable pub use Rattle.file_parts.specs.Exact.{exact_database}
+pub use Rattle.file_parts.specs.Exact.{ExactFile, IsExactly, exact_bytes, exact_entry, exact_in, exact_size, is_misplaced}
 pub use Rattle.file_parts.specs.Values.{IsNoExactFile, part_if}
 pub use Rattle.heap_map.specs.Pictures.{IsMapFault}
 pub use Rattle.heap_map.specs.declared.picture.MapFault.TheVariants.{BadImage}
-pub use Rattle.heap_model.specs.Database.{Database, DatabaseHeader, Entry, a_record, a_resource, data_in, database_in, entry_at, entry_count_in, entry_data, entry_in, entry_offset, entry_with, has_resources, header_in, name_field, name_in, resources_in}
+unfoldable pub use Rattle.heap_model.specs.Database.{database_in, header_in, name_field}
+pub use Rattle.heap_model.specs.Database.{Database, DatabaseHeader, Entry, a_record, a_resource, data_in, entry_at, entry_count_in, entry_data, entry_in, entry_offset, entry_with, has_resources, name_in, resources_in}
 pub use Rattle.heap_model.specs.DatabaseSteps.{info_of}
 pub use Rattle.heap_model.specs.Files.{HasNoFault, block_bytes, blocks_in}
 pub use Rattle.heap_model.specs.Lending.{IsLent}
@@ -21,7 +23,8 @@ pub use Rattle.heap_model.specs.Reading.{chunks_of, held, is_fixed_name}
 pub use Rattle.heap_model.specs.Refusals.{FirstBrings}
 pub use Rattle.heap_model.specs.Slots.{IsSlot, area_start, start_behind}
 pub use Rattle.heap_model.specs.Space.{place_of, place_under}
-pub use Rattle.heap_model.specs.Store.{Accepted, store_of}
+unfoldable pub use Rattle.heap_model.specs.Store.{store_of}
+pub use Rattle.heap_model.specs.Store.{Accepted}
 pub use Rattle.heap_model.specs.StoreSteps.{Call, DoesInStore}
 pub use Rattle.heap_model.specs.declared.call.MemoryCall.TheVariants.{Lock, Locks, Read, Recover, Unlock}
 pub use Rattle.heap_model.specs.declared.call.Reply.{Reply}
@@ -80,10 +83,12 @@ pub use base.Fraction.{full_share}
 pub use base.Logic.{SProp, emp, ent, fst∗, guard, guard_i, id⊢, never, sep, snd∗, via}
 pub use contract.BorrowLft.{◌⊑◌}
 pub use contract.Monad.{Fun, fact, fact_i, fact_use}
-pub use contract.Running.{tables, tables_of}
+unfoldable pub use contract.Running.{tables_of}
+pub use contract.Running.{tables}
 pub use denote.Exit.{no}
 pub use denote.Laws.{Is, shows}
-pub use denote.Memory.{cell_at, lone, mem, part_of}
+unfoldable pub use denote.Memory.{part_of}
+pub use denote.Memory.{cell_at, lone, mem}
 pub use denote.Param.{bounded, layout}
 pub use denote.RattleType.{RattleType, Valss, owns}
 pub use denote.RawPtr.{InBlock, Ptr, RawPtr, Testable, block_ptr, in_a_block, lies_at, null_ptr, ptr_val, ◌+ₚ◌}

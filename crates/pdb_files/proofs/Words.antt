@@ -1,7 +1,8 @@
 -- The words that most proofs of this crate cite, passed on from one place. Declares nothing.
 pub use Rattle.heap_model.specs.Bytes.{u16_at, u32_at}
 pub use Rattle.heap_model.specs.Chunk.{data_owner, need}
-pub use Rattle.heap_model.specs.Database.{Database, DatabaseFits, DatabaseHeader, Entry, EntryFits, HasShape, IsDatabaseName, IsSpelled, a_record, a_resource, data_in, database_in, entry_bytes, entry_count_in, entry_data, entry_in, entry_offset, entry_with, has_resources, header_in, is_deleted, name_in, resources_in}
+unfoldable pub use Rattle.heap_model.specs.Database.{database_in, header_in}
+pub use Rattle.heap_model.specs.Database.{Database, DatabaseFits, DatabaseHeader, Entry, EntryFits, HasShape, IsDatabaseName, IsSpelled, a_record, a_resource, data_in, entry_bytes, entry_count_in, entry_data, entry_in, entry_offset, entry_with, has_resources, is_deleted, name_in, resources_in}
 pub use Rattle.heap_model.specs.DatabaseFields.{app_info_at, attributes_at, entry_size, sort_info_at}
 pub use Rattle.heap_model.specs.DatabaseSteps.{IsTaken, taken}
 pub use Rattle.heap_model.specs.EntrySteps.{LeavesStore, MakesNone, most_entries}
@@ -15,7 +16,8 @@ pub use Rattle.heap_model.specs.Memory.{Memory}
 pub use Rattle.heap_model.specs.MemorySteps.{Of, reply_of}
 pub use Rattle.heap_model.specs.Refusals.{Check, FirstBrings, NoneHolds, ◌brings◌}
 pub use Rattle.heap_model.specs.Space.{MovesNothing, Still, rooms}
-pub use Rattle.heap_model.specs.Store.{Accepted, StoredDatabase, bytes_named, bytes_of, content, databases, listed, most_databases, numbers_of, owner_under, store_of, unique_id, unique_ids}
+unfoldable pub use Rattle.heap_model.specs.Store.{owner_under, store_of}
+pub use Rattle.heap_model.specs.Store.{Accepted, StoredDatabase, bytes_named, bytes_of, content, databases, listed, most_databases, numbers_of, unique_id, unique_ids}
 pub use Rattle.heap_model.specs.StoreSteps.{DoesInStore, StoreAsBefore, row_of}
 pub use Rattle.heap_model.specs.StoreWords.{In, OfDatabase, may_run_out, with_number}
 pub use Rattle.heap_model.specs.UniqueIds.{seed_in}

@@ -1,7 +1,8 @@
+-- The loop of `read_ahead` keeps its invariant: what was read and what is left are what the reader
+-- had.
 use Rattle.live_scripts.proofs.Words.{◌<◌, ◌≤◌, ◌-◌, vec_len, length, StartsWith, Keeps, prepend_known}
 use Rattle.live_scripts.proofs.ahead.read_ahead.Given as goal
 
--- what was read and what is left are what the reader had
 abbrev pub invariant-loop-text : goal.invariant-loop-text
 invariant-loop-text g l = record {
   limit : vec_len l.text ≤ 16777216;

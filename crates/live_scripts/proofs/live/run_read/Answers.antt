@@ -1,3 +1,5 @@
+-- `run_read` runs a script while it reads it, and stops at the first fault, by the laws of
+-- SessionLaws.
 use Rattle.live_scripts.proofs.Laws.{◌≡◌, ◌≤◌, ◌+◌, length, take, true, refl, sym, ap, subst, ◌∙◌, arith, rules, Keeps, prepend_known, Keeps-trans, with_items_is, IsUnended, stays_itself, stays_then, setting, ends_at, flush_stops_at, given_rest, kept_first, last_flush_stops, last_stops_at, nothing_read, on_handed, on_written, place_within, read_fails_at, reads_on, room_of, starts, stops_at, stops_read, stops_read_at_end, text_flushed, then_flushed, unended_on}
 use Rattle.live_scripts.proofs.live.run_read.Goals as goal
 

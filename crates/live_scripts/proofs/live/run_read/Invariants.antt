@@ -1,7 +1,7 @@
+-- The loop of `run_read` keeps its invariant: the lines before `at` were run.
 use Rattle.live_scripts.proofs.Words.{[], ◌≡◌, ◌<◌, ◌≤◌, ◌-◌, cond, drop, length, take, true, vec_len, IsAtEnd, Keeps, prepend_known, IsUnended, LoanStays, output, setting, HasRun, live_state}
 use Rattle.live_scripts.proofs.live.run_read.Given as goal
 
--- the lines before `at` were run
 abbrev pub invariant-loop-is_end : goal.invariant-loop-is_end
 invariant-loop-is_end g l = record {
   has : HasRun (setting (g.A.Allowance.is_short l.memory) l.inputs.files.now)

@@ -1,3 +1,4 @@
+-- `grow` adds only items that stand for no binding, by the laws of TableLaws.
 use Rattle.std.proofs.Common.{◌∙◌}
 use Rattle.live_scripts.proofs.TableLaws.{table_grown}
 use Rattle.live_scripts.proofs.tables.grow.Goals as goal

@@ -1,3 +1,5 @@
+-- `blank_chain` returns a blank image with a chain of one table, or reports out of memory only if
+-- an allocation failed.
 use Rattle.palmheap_c.proofs.Laws.{inr, refl, rules, IsRegionSize, chain_made}
 use Rattle.palmheap_c.proofs.chained_images.blank_chain.Goals as goal
 

@@ -1,3 +1,4 @@
+-- `chained` reports out of memory only if an allocation failed.
 use Rattle.std.proofs.Common.{refl}
 use Rattle.palmheap_c.proofs.chained_images.chained.Goals as goal
 

@@ -1,3 +1,5 @@
+-- `palmheap_new_chained` reports out of memory only if an allocation failed, by the laws of
+-- ChainLaws.
 use Rattle.palmheap_c.proofs.ChainLaws.{no_memory_for}
 use Rattle.palmheap_c.proofs.chained_images.palmheap_new_chained.Goals as goal
 

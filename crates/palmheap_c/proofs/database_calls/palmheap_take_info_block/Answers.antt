@@ -1,3 +1,4 @@
+-- `palmheap_take_info_block` does that call on the store, by the laws of CallLaws.
 use Rattle.std.proofs.Common.{refl}
 use Rattle.palmheap_c.proofs.CallLaws.{is_done}
 use Rattle.palmheap_c.proofs.database_calls.palmheap_take_info_block.Goals as goal

@@ -1,3 +1,4 @@
+-- `document_of` refuses a file only with the fault of its document.
 use Rattle.std.proofs.Common.{refl, subst}
 use Rattle.palmheap_c.specs.Documents.{IsDocumentFault}
 use Rattle.palmheap_c.proofs.documents.document_of.Goals as goal

@@ -1,3 +1,4 @@
+-- `palmheap_export` reports out of memory only if an allocation failed, by the laws of RefusalLaws.
 use Rattle.palmheap_c.proofs.Laws.{Err, sym, ap, ◌∙◌, Refusal, is_no_memory}
 use Rattle.palmheap_c.proofs.file_calls.palmheap_export.Goals as goal
 

@@ -1,3 +1,5 @@
+-- `palmheap_import` does that call on the store, and reports out of memory only if an allocation
+-- failed.
 use Rattle.palmheap_c.proofs.Laws.{refl, Err, sym, ap, ◌∙◌, Refusal, is_no_memory, is_done}
 use Rattle.palmheap_c.proofs.file_calls.palmheap_import.Goals as goal
 

@@ -1,3 +1,4 @@
+-- `palmheap_pdb_read` returns what is read of a file, by the laws of EntryLaws.
 use Rattle.palmheap_c.proofs.Laws.{ℕ, List, inl, inr, refl, subst, IsOpenFault, IsRead, outputs, is_read}
 use Rattle.palmheap_c.proofs.file_entries.palmheap_pdb_read.Goals as goal
 

@@ -1,3 +1,4 @@
+-- `put_entries` writes the entries of a file one by one, by the laws of EntryLaws.
 use Rattle.std.proofs.Common.{rules}
 use Rattle.palmheap_c.proofs.EntryLaws.{one_more}
 use Rattle.palmheap_c.proofs.file_entries.put_entries.Goals as goal

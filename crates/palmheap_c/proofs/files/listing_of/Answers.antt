@@ -1,3 +1,4 @@
+-- `listing_of` reports out of memory only if an allocation failed.
 use Rattle.std.proofs.Common.{refl, inr, subst}
 use Rattle.file_listing.specs.Listing.{IsListFault}
 use Rattle.palmheap_c.proofs.files.listing_of.Goals as goal

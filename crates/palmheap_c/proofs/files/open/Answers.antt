@@ -1,3 +1,4 @@
+-- `open` reports out of memory only if an allocation failed.
 use Rattle.palmheap_c.proofs.Words.{refl, inr, subst, IsOpenFault}
 use Rattle.palmheap_c.proofs.files.open.Goals as goal
 

@@ -1,3 +1,5 @@
+-- `check_region` gives the check enough bits, all of them 0, and refuses an image with its fault,
+-- by the laws of AnswerLaws.
 use Rattle.std.proofs.Common.{ℕ, length, sym, ap, subst}
 use Rattle.bit_sets.specs.Sets.{HasNone}
 use Rattle.heap_check.specs.Bits.{AreEnoughBits}

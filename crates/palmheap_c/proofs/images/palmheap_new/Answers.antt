@@ -1,3 +1,4 @@
+-- `palmheap_new` reports out of memory only if an allocation failed.
 use Rattle.palmheap_c.proofs.images.palmheap_new.Goals as goal
 
 pub returns-in-Err-OutOfMemory-clause-short : goal.returns-in-Err-OutOfMemory-clause-short

@@ -1,3 +1,4 @@
+-- `joined` appends the files one by one, each with its end, by the laws of EndLaws.
 use Rattle.std.proofs.Common.{ℕ, [], ◌∷◌, ◌++◌, ap, ◌∙◌}
 use Rattle.palmheap_c.proofs.EndLaws.{one_joined}
 use Rattle.palmheap_c.proofs.inputs.joined.Goals as goal

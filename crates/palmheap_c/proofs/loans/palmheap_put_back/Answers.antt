@@ -1,3 +1,4 @@
+-- `palmheap_put_back` leaves the bytes of pointers out, by the laws of PointerLaws.
 use Rattle.palmheap_c.proofs.Laws.{◌≡◌, ◌∙◌, ℕ, ap, refl, subst, sym, Memory, OnLoan, PutsBackInStore, pinned, puts_keep}
 use Rattle.std.proofs.Common.{None}
 use Rattle.palmheap_c.specs.declared.loans.KeptLoan.{KeptLoan}

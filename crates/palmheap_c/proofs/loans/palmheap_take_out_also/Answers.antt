@@ -1,3 +1,4 @@
+-- `palmheap_take_out_also` leaves the bytes of pointers out, by the laws of PointerLaws.
 use Rattle.palmheap_c.proofs.Laws.{refl, subst, Memory, TakesOutOfStore, as_name, takes_keep}
 use Rattle.palmheap_c.proofs.loans.palmheap_take_out_also.Goals as goal
 

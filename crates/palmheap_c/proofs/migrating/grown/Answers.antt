@@ -1,3 +1,4 @@
+-- `grown` reports out of memory only if an allocation failed.
 use Rattle.std.proofs.Common.{inl, inr, refl}
 use Rattle.palmheap_c.proofs.migrating.grown.Goals as goal
 

@@ -1,3 +1,5 @@
+-- `palmheap_lock_pointer` leaves the bytes of pointers out, also if it is refused, by the laws of
+-- PointerLaws.
 use Rattle.palmheap_c.proofs.Laws.{ℕ, subst, sym, number_of, Opened, LocksPointer, RefusesPointer, lock_keeps, refused_keeps}
 use Rattle.palmheap_c.proofs.pointers.palmheap_lock_pointer.Goals as goal
 

@@ -1,3 +1,4 @@
+-- `palmheap_start` returns the start from which all pointers are counted, by the laws of PlaceLaws.
 use Rattle.palmheap_c.proofs.Words.{length, subst, Memory, AllLieIn}
 use Rattle.palmheap_c.proofs.PlaceLaws.{at_places}
 use Rattle.palmheap_c.proofs.pointers.palmheap_start.Goals as goal

@@ -1,3 +1,4 @@
+-- `palmheap_unlock_handle` leaves the bytes of the other pointers out, by the laws of PointerLaws.
 use Rattle.palmheap_c.proofs.Laws.{sym, subst, Opened, HoldsPointers, UnlocksPointer, unlock_code, unlock_pointer_keeps}
 use Rattle.palmheap_c.proofs.pointers.palmheap_unlock_handle.Goals as goal
 

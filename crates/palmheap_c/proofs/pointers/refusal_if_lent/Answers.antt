@@ -1,3 +1,5 @@
+-- `refusal_if_lent` returns no refusal only if the bytes of the chunk are not out, by the laws of
+-- PointerLaws.
 use Rattle.palmheap_c.proofs.PointerLaws.{none_out_else}
 use Rattle.palmheap_c.proofs.pointers.refusal_if_lent.Goals as goal
 

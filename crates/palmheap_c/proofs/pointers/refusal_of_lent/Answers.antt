@@ -1,3 +1,5 @@
+-- `refusal_of_lent` returns the first refusal of a chunk whose bytes are out, by the laws of
+-- PointerLaws.
 use Rattle.palmheap_c.proofs.PointerLaws.{fixed_first, lent_first, most_first}
 use Rattle.palmheap_c.proofs.pointers.refusal_of_lent.Goals as goal
 

@@ -1,3 +1,5 @@
+-- `palmheap_run` runs a script in place, or reports which buffers are too short, by the laws of
+-- RunLaws.
 use Rattle.std.proofs.Common.{map, refl, inl, inr}
 use Rattle.palmheap_c.specs.Runs.{written}
 use Rattle.palmheap_c.proofs.RunLaws.{in_place, too_short}

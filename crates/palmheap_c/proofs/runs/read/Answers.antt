@@ -1,3 +1,4 @@
+-- `read` refuses a script with its fault, by the laws of AnswerLaws.
 use Rattle.std.proofs.Common.{refl}
 use Rattle.palmheap_c.proofs.AnswerLaws.{script_refused}
 use Rattle.palmheap_c.proofs.runs.read.Goals as goal

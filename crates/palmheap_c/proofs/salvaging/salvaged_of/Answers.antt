@@ -1,3 +1,4 @@
+-- `salvaged_of` reports out of memory only if an allocation failed.
 use Rattle.std.proofs.Common.{inr, refl, subst}
 use Rattle.canonical_file.specs.Salvaged.{IsSalvageFault}
 use Rattle.palmheap_c.proofs.salvaging.salvaged_of.Goals as goal

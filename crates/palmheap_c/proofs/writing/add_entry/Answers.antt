@@ -1,3 +1,4 @@
+-- `add_entry` reports out of memory only if an allocation failed.
 use Rattle.std.proofs.Common.{inl, refl}
 use Rattle.palmheap_c.proofs.writing.add_entry.Goals as goal
 

@@ -1,3 +1,4 @@
+-- `exact_of` refuses values only if no file has them, or if an allocation failed.
 use Rattle.palmheap_c.proofs.Words.{ℕ, List, inl, inr, refl, subst, Database, IsNoExactFile, given_by, named_database}
 use Rattle.std.proofs.Common.{Option}
 use Rattle.palmheap_c.proofs.writing.exact_of.Goals as goal

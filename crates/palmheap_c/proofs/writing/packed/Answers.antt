@@ -1,3 +1,4 @@
+-- `packed` returns the file of the given values, by the laws of WriteLaws.
 use Rattle.palmheap_c.proofs.Words.{inr, refl, ◌∙◌, given_by}
 use Rattle.palmheap_c.proofs.WriteLaws.{file_from_c}
 use Rattle.palmheap_c.proofs.writing.packed.Goals as goal

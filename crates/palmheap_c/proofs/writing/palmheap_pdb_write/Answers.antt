@@ -1,3 +1,4 @@
+-- `palmheap_pdb_write` writes what was read of a file back as that file, by the laws of ReadLaws.
 use Rattle.palmheap_c.proofs.Words.{buffer, given}
 use Rattle.palmheap_c.proofs.ReadLaws.{written_back}
 use Rattle.palmheap_c.proofs.writing.palmheap_pdb_write.Goals as goal

@@ -1,3 +1,5 @@
+-- `export` writes the file of a database, or refuses one that is unknown or has a block that is
+-- lent.
 use Rattle.pdb_files.proofs.Laws.{ℕ, true, false, subst, ap, ◌∙◌, refl, Any, both_ways, Writes, Database, data_in, database_in, IsLent, content, store_of, file_of, exportable, not_none, numbered, same_database, lent_here, lent_number, in_this, of_this, none_in}
 use Rattle.std.specs.Prelude.{length}
 use Rattle.pdb_files.proofs.exporting.export.Goals as goal

@@ -1,3 +1,5 @@
+-- `exported` returns the file of a database, or refuses one that is unknown or has a block that is
+-- lent.
 use Rattle.pdb_files.proofs.Laws.{both_ways, database_in, exportable, lent_here, lent_number, lent_out, no_number, no_room, numbered, written}
 use Rattle.pdb_files.proofs.exporting.exported.Goals as goal
 

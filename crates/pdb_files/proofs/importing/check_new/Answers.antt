@@ -1,3 +1,4 @@
+-- `check_new` refuses a database whose name is taken, or for which the store has no place.
 use Rattle.pdb_files.proofs.Laws.{◌≤◌, ℕ, List, length, refl, sym, subst, ◌∙◌, arith, inl, inr, take_all, most_databases, store_of, IsTaken, taken_found, free_found, count_is}
 use Rattle.pdb_files.proofs.importing.check_new.Goals as goal
 

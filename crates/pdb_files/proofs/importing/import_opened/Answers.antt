@@ -1,3 +1,4 @@
+-- `import_opened` makes the database of a file, or refuses it and leaves the store as it was.
 use Rattle.pdb_files.proofs.Laws.{ℕ, List, length, ap, subst, ◌∙◌, arith, store_of, IsTaken, FirstBrings, Import, refused, handed_on, checks_of_new, good_brings, front_brings, no_memory_left, names_enough}
 use Rattle.heap_model.specs.declared.call.Call.TheVariants as calls
 use Rattle.heap_model.specs.declared.call.Reply.TheVariants as replies

@@ -1,3 +1,4 @@
+-- `refusal_of` returns the refusal of a file that has a fault.
 use Rattle.pdb_files.proofs.Laws.{subst, rules, Import, refused, fault_brings, front_brings}
 use Rattle.heap_model.specs.declared.call.Call.TheVariants as calls
 use Rattle.pdb_format.specs.OpenFaults.{IsOpenFault}

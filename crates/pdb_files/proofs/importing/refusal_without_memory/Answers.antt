@@ -1,3 +1,4 @@
+-- `refusal_without_memory` returns the refusal of a file that was not opened as memory ran out.
 use Rattle.pdb_files.proofs.Laws.{List, ℕ, length, ap, subst, arith, store_of, IsTaken, FirstBrings, Import, refused, checks_of_new, good_brings, front_brings, no_memory_left}
 use Rattle.heap_model.specs.declared.call.Call.TheVariants as calls
 use Rattle.pdb_format.proofs.FileNames.{name_short}

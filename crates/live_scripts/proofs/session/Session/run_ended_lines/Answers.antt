@@ -1,3 +1,4 @@
+-- `run_ended_lines` runs the lines of a text that line feeds end, by the laws of SessionLaws.
 use Rattle.live_scripts.proofs.Laws.{◌≡◌, ◌+◌, ◌++◌, [], refl, sym, ap, ◌∙◌, append_assoc, length, length-append, arith, stays_itself, stays_then, setting, on_handed, runs_further, runs_nothing, runs_taken, stops_further}
 use Rattle.live_scripts.proofs.session.Session.run_ended_lines.Goals as goal
 

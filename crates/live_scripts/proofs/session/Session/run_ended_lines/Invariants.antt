@@ -1,7 +1,7 @@
+-- The loop of `run_ended_lines` keeps its invariant: the lines before the rest were run.
 use Rattle.live_scripts.proofs.Words.{[], ◌≡◌, ◌≤◌, ◌+◌, ◌-◌, ◌++◌, List, ℕ, length, LoanStays, output, setting, RunsOn, live_state}
 use Rattle.live_scripts.proofs.session.Session.run_ended_lines.Given as goal
 
--- the lines before the rest were run
 abbrev pub invariant-loop-cut : goal.invariant-loop-cut
 invariant-loop-cut g l = record {
   front : List ℕ;

@@ -1,3 +1,5 @@
+-- `run_last_line` runs the last line of a text, which no line feed ends, by the laws of
+-- SessionLaws.
 use Rattle.live_scripts.proofs.Laws.{◌<◌, length, arith, setting, last_stops_on, line_ends_on}
 use Rattle.std.proofs.lemmas.Bool.Decides.{nat_tests}
 use Rattle.std.proofs.lemmas.Result.{IfErr-weaker, on_ok_weaker}

@@ -1,3 +1,4 @@
+-- `run_line` does what the line says on the session, by the laws of SessionLaws.
 use Rattle.live_scripts.proofs.Laws.{◌≡◌, ◌∙◌, ◌++◌, ap, length, sym, with_items_is, option_to_list, setting, tables, bound_in, call_stays, runs_line}
 use Rattle.std.specs.Vec.{with_items}
 use Rattle.live_scripts.proofs.session.Session.run_line.Goals as goal

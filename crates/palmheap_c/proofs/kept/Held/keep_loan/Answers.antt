@@ -1,3 +1,4 @@
+-- `keep_loan` lets the loan go if an allocation fails.
 use Rattle.palmheap_c.proofs.Laws.{◌≡◌, ℕ, ap, subst, ◌∙◌, Memory, Unlock, OnLoan, DoesMemory, number_or_refused, Opened, Pinned, unlocks}
 use Rattle.std.specs.Mem.{manually_drop_value}
 use Rattle.palm_store.specs.Loans as stores

@@ -1,3 +1,4 @@
+-- `lock_first` gives the first pointer to a chunk, by the laws of PointerLaws.
 use Rattle.palmheap_c.proofs.Laws.{◌≡◌, ℕ, ap, subst, ◌∙◌, place_of, HasBytesOut, Memory, FirstBrings, Lock, Locked, also_out_checks, DoesMemory, as_name, Opened, first_given, first_refused, never_refused}
 use Rattle.palm_store.specs.Loans as stores
 use Rattle.palmheap_c.proofs.kept.Held.lock_first.Goals as goal

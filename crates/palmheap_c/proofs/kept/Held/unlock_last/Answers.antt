@@ -1,3 +1,4 @@
+-- `unlock_last` puts back bytes that are out.
 use Rattle.palmheap_c.proofs.Words.{◌≡◌, ap, sym, subst, ◌∙◌, Some, Memory, Name, IsOutUnder, OnLoan, Opened, loan_of, pinned}
 use Rattle.palmheap_c.proofs.kept.Held.unlock_last.Goals as goal
 

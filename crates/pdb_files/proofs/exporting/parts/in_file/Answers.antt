@@ -1,3 +1,4 @@
+-- `in_file` returns an entry as its file has it.
 use Rattle.pdb_files.proofs.Laws.{ℕ, ap, ◌∙◌, bytes_named, block_offset, entry_in_file}
 use Rattle.db_format.specs.EitherEntry.{entry_of}
 use Rattle.pdb_files.proofs.exporting.parts.in_file.Goals as goal

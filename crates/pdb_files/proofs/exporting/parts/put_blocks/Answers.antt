@@ -1,3 +1,4 @@
+-- `put_blocks` writes the blocks of a database, or a prefix of them if a write fails.
 use Rattle.pdb_files.proofs.Laws.{ℕ, false, List, ◌++◌, Option, refl, ap, sym, ◌∙◌, is_ok, Database, ChunkMap, store_of, block_bytes, then, stops, data_text, content_of, blocks_text, app_block, sort_block, failed, as_blocks, app_own, sort_own}
 use Rattle.pdb_files.proofs.exporting.parts.put_blocks.Goals as goal
 

@@ -1,3 +1,4 @@
+-- `put_data` writes the data of the entries, or a prefix of it if a write fails.
 use Rattle.pdb_files.proofs.Laws.{◌<◌, ◌≤◌, arith, true, false, entry_count_in, store_of, data_text, content_of, failed, then_data, stops_data, no_data, entry_own}
 use Rattle.pdb_files.proofs.exporting.parts.put_data.Goals as goal
 

@@ -1,7 +1,7 @@
+-- The loop of `put_data` keeps its invariant: whatever is written from here on completes the data.
 use Rattle.pdb_files.proofs.Words.{Bool, drop, Writing, Writes, data_text, content_of}
 use Rattle.pdb_files.proofs.exporting.parts.put_data.Given as goal
 
--- whatever is written from here on completes the data
 abbrev pub invariant-loop-index : goal.invariant-loop-index
 invariant-loop-index g l = record {
   completed : (new : Writing g.row.W.Denot) (ok : Bool) → Writes g.W.Write.contents l.out new

@@ -1,3 +1,4 @@
+-- `put_entries` writes the entries with their offsets, or a prefix of them if a write fails.
 use Rattle.pdb_files.proofs.Laws.{◌≡◌, ◌<◌, ◌≤◌, arith, true, false, ◌∙◌, ap, entry_data, entry_bytes, entry_count_in, entry_in, ChunkMap, bytes_named, store_of, block_size, entries_text, content_of, file_entry, failed, size_from, then_entry, stops_entry, no_entry, entry_own}
 use Rattle.pdb_files.proofs.exporting.parts.put_entries.Goals as goal
 

@@ -1,3 +1,4 @@
+-- `put_file` writes the file of a database from its parts, or a prefix of it if a write fails.
 use Rattle.pdb_files.proofs.Laws.{ℕ, false, List, [], ◌∷◌, ◌++◌, Option, refl, arith, is_ok, Database, file_of, then, stops, data_at, header_text, entries_text, content_of, size_parts, blocks_text, failed, as_file}
 use Rattle.pdb_files.proofs.exporting.parts.put_file.Goals as goal
 

@@ -1,3 +1,4 @@
+-- `put_header` writes the header of the file.
 use Rattle.pdb_files.proofs.Laws.{ℕ, List, Option, subst, is_ok, Writes, Database, database_in, store_of, idle, with_offsets, first_block, content_of, header_placed}
 use Rattle.pdb_files.proofs.exporting.parts.put_header.Goals as goal
 

@@ -1,3 +1,4 @@
+-- `file_size` returns the length of the file of a database, by the laws of FileLengths.
 use Rattle.pdb_files.proofs.Laws.{◌<◌, ◌≤◌, List, length, arith, ap, entry_count_in, database_in, store_of, data_text, content_of, size_parts, size_from, none_left, entry_own}
 use Rattle.pdb_files.proofs.FileLengths.{length-file_of}
 use Rattle.pdb_files.proofs.exporting.places.file_size.Goals as goal

@@ -1,3 +1,4 @@
+-- `find_places` returns the offsets of the blocks in the file of a database.
 use Rattle.pdb_files.proofs.Laws.{◌≡◌, ℕ, ◌+◌, List, Option, arith, sym, ap, ◌∙◌, Database, ChunkMap, store_of, block_size, first_block, block_under, content_of, size_parts, app_block, sort_block, same_offset, app_own, sort_own}
 use Rattle.pdb_files.proofs.exporting.places.find_places.Goals as goal
 

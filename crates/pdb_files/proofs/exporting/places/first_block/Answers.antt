@@ -1,3 +1,4 @@
+-- `first_block` returns the offset of the first block in the file of a database.
 use Rattle.pdb_files.proofs.Laws.{◌∙◌, sym, ap, Bool, resources_in, store_of, first_block_is}
 use Rattle.pdb_format.specs.Filler.{first_place_after}
 use Rattle.pdb_files.proofs.exporting.places.first_block.Goals as goal

@@ -1,3 +1,5 @@
+-- The loop of `fill_blocks` keeps its invariant: the chunks of the blocks before this one are
+-- filled.
 use Rattle.pdb_files.proofs.Laws.{map, bytes_at, numbers_in, IsFilling}
 use Rattle.pdb_files.proofs.importing.filling.fill_blocks.Given as goal
 

@@ -1,3 +1,4 @@
+-- The loop of `are_short` keeps its invariant: each block before this one is absent or short.
 use Rattle.pdb_files.proofs.Words.{ℕ, ◌<◌, Option, slice_index_or, Block, IsShort}
 use Rattle.pdb_files.proofs.importing.plan.are_short.Given as goal
 

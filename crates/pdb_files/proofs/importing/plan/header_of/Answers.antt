@@ -1,3 +1,4 @@
+-- `header_of` returns the header of a file's database with a seed.
 use Rattle.pdb_files.proofs.Words.{sym, ap, subst, ◌∙◌, IsDatabaseName, DbInfo, header_asked}
 use Rattle.pdb_files.proofs.importing.plan.header_of.Goals as goal
 

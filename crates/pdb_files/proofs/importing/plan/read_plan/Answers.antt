@@ -1,3 +1,4 @@
+-- `read_plan` returns the plan of a file's database, by the laws of Plans.
 use Rattle.pdb_files.proofs.Words.{ℕ, List, sym, subst, entry_count_in, HasIdsFor, ArePlannedOf, ids_for}
 use Rattle.pdb_files.proofs.Plans.{planned}
 use Rattle.pdb_files.proofs.importing.plan.read_plan.Goals as goal
