@@ -144,7 +144,8 @@ module _ {W : Type 0} (given : Setting) (contents : W → Option (List ℕ)) whe
       (live_state session old) (live_state session_new new) (output contents out out_after)
   line_runs_on next text session session_new old new out out_after ended count
       (inl (read, bound, files, same, same_out)) front first out_first has = record {
-        whole = λ rest. cut_further front next text rest has.whole (alone next text ended) (ended rest);
+        whole =
+            λ rest. cut_further front next text rest has.whole (alone next text ended) (ended rest);
         counted = rw (count, has.counted)
             (sym (one_counted front next text (has.whole next) (alone next text ended)));
         ran_lines = has.ran_lines;
@@ -157,7 +158,8 @@ module _ {W : Type 0} (given : Setting) (contents : W → Option (List ℕ)) whe
       }
   line_runs_on next text session session_new old new out out_after ended count
       (inr (line, read, runs)) front first out_first has = record {
-        whole = λ rest. cut_further front next text rest has.whole (alone next text ended) (ended rest);
+        whole =
+            λ rest. cut_further front next text rest has.whole (alone next text ended) (ended rest);
         counted = rw (count, has.counted)
             (sym (one_counted front next text (has.whole next) (alone next text ended)));
         ran_lines = has.ran_lines ++ line ∷ [];
@@ -166,10 +168,10 @@ module _ {W : Type 0} (given : Setting) (contents : W → Option (List ℕ)) whe
             ∙ rw count refl;
         replies = has.replies ++ reply_line line runs.replies.reply;
         ran = rw (runs.exports, runs.binds) (one_more {given = given} (labelled first unbound)
-            has.ran_lines has.replies session.files.items
-            (labelled old (bound_in session)) line runs.replies.reply new has.ran runs.replies.step);
-        printed = prints_more out_first out out_after has.replies (reply_line line runs.replies.reply)
-            has.printed (runs.replies.written.0, runs.replies.written.1);
+            has.ran_lines has.replies session.files.items (labelled old (bound_in session)) line
+            runs.replies.reply new has.ran runs.replies.step);
+        printed = prints_more out_first out out_after has.replies (reply_line line
+            runs.replies.reply) has.printed (runs.replies.written.0, runs.replies.written.1);
       }
 
   -- the last line, which no line feed ends
@@ -197,10 +199,10 @@ module _ {W : Type 0} (given : Setting) (contents : W → Option (List ℕ)) whe
         replies = has.replies ++ reply_line line runs.replies.reply;
         bound = bound_in session_new;
         ran = rw (runs.exports, runs.binds) (one_more {given = given} (labelled first unbound)
-            has.ran_lines has.replies session.files.items
-            (labelled old (bound_in session)) line runs.replies.reply new has.ran runs.replies.step);
-        printed = prints_more out_first out out_after has.replies (reply_line line runs.replies.reply)
-            has.printed (runs.replies.written.0, runs.replies.written.1);
+            has.ran_lines has.replies session.files.items (labelled old (bound_in session)) line
+            runs.replies.reply new has.ran runs.replies.step);
+        printed = prints_more out_first out out_after has.replies (reply_line line
+            runs.replies.reply) has.printed (runs.replies.written.0, runs.replies.written.1);
       }
 
   pub runs_then : (one other : List ℕ) (a b c : Session) (old mid new : Memory)

@@ -30,11 +30,12 @@ set_other [] name other it differs = refl
 set_other (e ∷ pointers) name other it differs =
     by (set_other pointers name other it differs) (is_at (nat_cmp name) e.0) refl where
       by : pinned (set_value (is_at (nat_cmp name)) pointers it) other ≡ pinned pointers other
-          → (b : Bool) → is_at (nat_cmp name) e.0 ≡ b
-          → pinned (cond b ((e.0, it) ∷ pointers) (e ∷ set_value (is_at (nat_cmp name)) pointers it))
-          other ≡ cond (is_at (nat_cmp other) e.0) (Some e.1) (pinned pointers other)
+          → (b : Bool) → is_at (nat_cmp name) e.0 ≡ b → pinned (cond b ((e.0, it) ∷ pointers)
+          (e ∷ set_value (is_at (nat_cmp name)) pointers it)) other
+          ≡ cond (is_at (nat_cmp other) e.0) (Some e.1) (pinned pointers other)
       by rest true is =
-          let apart : other ≢ e.0 = let same = same_key name e.0 is in λ x. differs (x ∙ sym same) in
+          let apart : other ≢ e.0 = let same = same_key name e.0 is in
+          λ x. differs (x ∙ sym same) in
           past other e.0 (Some it) (pinned pointers other) apart
           ∙ sym (past other e.0 (Some e.1) (pinned pointers other) apart)
       by rest false is = ap (cond (is_at (nat_cmp other) e.0) (Some e.1)) rest
@@ -60,9 +61,10 @@ pub insert_other : (pointers : Pointers) (name other : ℕ) (it : Pinned) → ot
 insert_other [] name other it differs = past other name (Some it) None differs
 insert_other (e ∷ pointers) name other it differs =
     by (insert_other pointers name other it differs) (nat_cmp name e.0) refl where
-      by : pinned (insert_entry nat_cmp pointers name it) other ≡ pinned pointers other → (r : Ordering)
-          → nat_cmp name e.0 ≡ r → pinned (match_ordering r ((name, it) ∷ e ∷ pointers) ((e.0, it)
-          ∷ pointers) (e ∷ insert_entry nat_cmp pointers name it)) other ≡ pinned (e ∷ pointers) other
+      by : pinned (insert_entry nat_cmp pointers name it) other ≡ pinned pointers other
+          → (r : Ordering) → nat_cmp name e.0 ≡ r
+          → pinned (match_ordering r ((name, it) ∷ e ∷ pointers) ((e.0, it) ∷ pointers)
+          (e ∷ insert_entry nat_cmp pointers name it)) other ≡ pinned (e ∷ pointers) other
       by rest Less is = past other name (Some it) (pinned (e ∷ pointers) other) differs
       by rest Equal is =
           let apart : other ≢ e.0 = let same = same_key name e.0 (ap is_eq is) in
@@ -76,15 +78,16 @@ pub insert_own : (pointers : Pointers) (name : ℕ) (it : Pinned) → pinned poi
 insert_own [] name it none = at_own name name it None refl
 insert_own (e ∷ pointers) name it none =
     by (insert_own pointers name it) (nat_cmp name e.0) refl where
-      by : (pinned pointers name ≡ None → pinned (insert_entry nat_cmp pointers name it) name ≡ Some it)
-          → (r : Ordering) → nat_cmp name e.0 ≡ r → pinned (match_ordering r ((name, it) ∷ e ∷ pointers)
+      by : (pinned pointers name ≡ None
+          → pinned (insert_entry nat_cmp pointers name it) name ≡ Some it) → (r : Ordering)
+          → nat_cmp name e.0 ≡ r → pinned (match_ordering r ((name, it) ∷ e ∷ pointers)
           ((e.0, it) ∷ pointers) (e ∷ insert_entry nat_cmp pointers name it)) name ≡ Some it
       by rest Less is = at_own name name it (pinned (e ∷ pointers) name) refl
       by rest Equal is = at_own name e.0 it (pinned pointers name) (same_key name e.0 (ap is_eq is))
       by rest Greater is =
           let no : is_at (nat_cmp name) e.0 ≡ false = ap is_eq is in
-          ap (λ (b : Bool). cond b (Some e.1) (pinned (insert_entry nat_cmp pointers name it) name)) no
-          ∙ rest (sym (ap (λ (b : Bool). cond b (Some e.1) (pinned pointers name)) no) ∙ none)
+          ap (λ (b : Bool). cond b (Some e.1) (pinned (insert_entry nat_cmp pointers name it) name))
+          no ∙ rest (sym (ap (λ (b : Bool). cond b (Some e.1) (pinned pointers name)) no) ∙ none)
 
 -- ---- one less
 
@@ -98,6 +101,7 @@ remove_other (e ∷ pointers) name other differs =
           → pinned (cond b pointers (e ∷ remove_entry (is_at (nat_cmp name)) pointers)) other
           ≡ cond (is_at (nat_cmp other) e.0) (Some e.1) (pinned pointers other)
       by rest true is =
-          let apart : other ≢ e.0 = let same = same_key name e.0 is in λ x. differs (x ∙ sym same) in
+          let apart : other ≢ e.0 = let same = same_key name e.0 is in
+          λ x. differs (x ∙ sym same) in
           sym (past other e.0 (Some e.1) (pinned pointers other) apart)
       by rest false is = ap (cond (is_at (nat_cmp other) e.0) (Some e.1)) rest

@@ -1,4 +1,5 @@
--- Where the pointers to chunks are, counted from the start of an image, and which chunk is found there.
+-- The places of the pointers to chunks, counted from the start of an image, and the chunk that is
+-- found there.
 use Rattle.palmheap_c.proofs.Words.{◌≡◌, ◌≤◌, ℕ, List, [], ◌∷◌, length, sym, ap, ◌∙◌, arith, inl, inr, Option, Some, None, Ptr, ◌+ₚ◌, LiveChunk, Memory, Lent, SomeLent, Of, chunks_of, area_start, place_of, store_of, DoesInStore, Recover, Named, Refused, Refusal, AllLieIn, PartOut, as_name, as_place, Opened, AreAtPlaces, HoldsPointers, loan_of, pinned, Pinned}
 use Rattle.heap_model.specs.declared.call.Call.TheVariants as calls
 use Rattle.palmheap_c.proofs.OutLaws.{one_under}

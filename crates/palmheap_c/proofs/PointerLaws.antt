@@ -127,8 +127,8 @@ never_refused m locked name place count refusal does unmoved here first =
           (some_to (λ l. place_of locked.bytes name ≡ Some l.at) (λ l. place_of m.bytes name
           ≡ Some l.at) locked.lents is (λ l there. sym (unmoved name) ∙ there))
 
-      by : (o : Option LiveChunk) → callers_map m.bytes name ≡ o → Of o (λ live. count ≡ live.lock + 1)
-          → ⊥
+      by : (o : Option LiveChunk) → callers_map m.bytes name ≡ o
+          → Of o (λ live. count ≡ live.lock + 1) → ⊥
       by None is counted = counted
       by (Some live) is counted =
           let now : LiveChunk = record live { lock = live.lock + 1 } in
@@ -137,7 +137,8 @@ never_refused m locked name place count refusal does unmoved here first =
           (callers_map m.bytes name) else callers_map m.bytes name) (eq-eqb name name refl)
           ∙ ap (changed (λ it. record it { lock = it.lock + 1 })) is in
           out_after locked name now refusal there (λ none. absurd (omega (arith, none))) (λ out.
-          here (subst (λ (o : Option LiveChunk). Of o (λ it. IsLent m name)) (sym is) (lent out))) first
+          here (subst (λ (o : Option LiveChunk). Of o (λ it. IsLent m name)) (sym is) (lent out)))
+          first
 
 -- ---- unlocking
 
@@ -290,8 +291,8 @@ counted_keep old new name it locks was more holds =
         | inl same ↦
             let is = holds name it was in
             let now : found ≡ locked_times it locks = one_pin (sym there
-            ∙ ap (pinned (set_value (is_at (nat_cmp name)) old.pointers (locked_times it locks))) same
-            ∙ set_own old.pointers name it (locked_times it locks) was) in
+            ∙ ap (pinned (set_value (is_at (nat_cmp name)) old.pointers (locked_times it locks)))
+            same ∙ set_own old.pointers name it (locked_times it locks) was) in
             subst (λ (x : ℕ × Pinned). IsPinned old.memory x.0 x.1) (λ i. (sym same i, sym now i))
             (record { named_so = is.named_so; out = is.out; starts = is.starts })
         | inr differs ↦ (let is = holds other found
@@ -320,7 +321,8 @@ gives_keep old new name loan at count gives none named out holds =
               out = subst (λ (l : OnLoan). IsOutUnder old.memory name l.part) (sym gives.is) out;
               starts = gives.starts ∙ sym (ap (λ (l : OnLoan). l.part.start) gives.is);
             } in
-            subst (λ (x : ℕ × Pinned). IsPinned old.memory x.0 x.1) (λ i. (sym same i, sym now i)) own
+            subst (λ (x : ℕ × Pinned). IsPinned old.memory x.0 x.1)
+            (λ i. (sym same i, sym now i)) own
         | inr differs ↦ (let is =
             holds other found (sym (insert_other old.pointers name other it differs) ∙ there) in
             record { named_so = is.named_so; out = is.out; starts = is.starts })

@@ -164,10 +164,11 @@ none_new old new before after directory same callers name there =
             number_held old name before
             (listed_number old name (subst (λ (xs : List ℕ). 0 < times name xs) slots more))
       ]
-      | inr other ↦
-          some_shown (held old name) (callers name (ap is_some (shown (held new name) other) ∙ there))
+      | inr other ↦ some_shown (held old name)
+          (callers name (ap is_some (shown (held new name) other) ∙ there))
     ] where
-      held_some : (image : List ℕ) (name : ℕ) → HeapAccepted image → IsSome (held image name) → 0 < name
+      held_some : (image : List ℕ) (name : ℕ) → HeapAccepted image → IsSome (held image name)
+          → 0 < name
       held_some image name h there = elim (cases_eq name 0) [
         | inl none ↦ let gone = ap (λ (n : ℕ). is_some (held image n)) (sym none) ∙ there in
             let no = ap is_some (held-zero image h) in absurd cc

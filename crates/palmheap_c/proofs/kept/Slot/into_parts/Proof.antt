@@ -1,4 +1,5 @@
--- `into_parts` takes the pointer out of a `Slot` that holds a store, with what it owns. Assumes `Logic`.
+-- `into_parts` takes the pointer out of a `Slot` that holds a store, with what it owns. Assumes
+-- `Logic`.
 use Rattle.palmheap_c.proofs.Laws.{◌≡◌, List, [], ◌∷◌, ◌++◌, refl, sym, ap, ◌∙◌, subst, proved_at, leaves, Fn, Val, vptr, SProp, ent, emp, id⊢, never, fst∗, WpFn, sem, fact, fact_i, tables, ‵, raw, ◌⊛◌, ◌$◌, ◌∵◌, !, qed, by, move, keep, use0, split, suffices, rewrite, fsplit, fsplit3, fjoin, whole, sub, agg, stop, fld, of_opd, no_more, and_then, returns, enter, alloc_all, pass_all, free_all, look_at, get, get_in, sets, RattleType, owns, Ptr, block_ptr, null_ptr, in_a_block, lone, types_at, plain, nothing, heard, alive, Stays, stay_dropped, walk_of, Goes-blank, handle_tells, box_owns, HoldsStore, frees, kept_in, slot_owns, Opened, Option, word, both, told, al, parts_good, parts_in}
 use mir.Raw.{raw as bare}
 use types.Kit.{drop}
