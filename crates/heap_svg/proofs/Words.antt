@@ -14,11 +14,16 @@ pub use Rattle.heap_model.specs.Reading.{chunks_of}
 pub use Rattle.heap_model.specs.Slots.{area_start, slots_of}
 pub use Rattle.heap_model.specs.Space.{greatest}
 pub use Rattle.heap_model.specs.Store.{directory_bytes, listed}
-pub use Rattle.heap_svg.specs.Drawing.{WritesDrawing, bar_open, bar_part, bar_parts, bar_text, bottom_text, closing_text, drawing_text, frame_text, framed_text, height_of, middle_text, notes_text, open_text, top_text, used_slots_text}
-pub use Rattle.heap_svg.specs.Legend.{database_at, database_note, databases_note, entries_note, escaped, escaped_byte, is_of_size, kinds_text, letter_note, size_note, size_note_at, size_notes, sizes_at}
-pub use Rattle.heap_svg.specs.Rooms.{AddsToRooms, compact_pieces, kept, rooms_drawn, rooms_from, sizes}
-pub use Rattle.heap_svg.specs.Rows.{IsRowSize, doubled, first_row, label_text, labels_text, rect_text, right_of, right_text, rights_text, rows_in, sizes_in, strip_part, strip_row, strip_rows, strip_text, strips_text, title_text}
-pub use Rattle.heap_svg.specs.Strips.{AddsBytes, AnyHas, BeginsStrip, HasByte, HasOneMark, JoinsLast, ShowImage, all_strips, byte_mark, end_of, head_mark, head_strip, joins, longer, mark_of_byte, next_strip, strips_from, strips_of}
+unfoldable pub use Rattle.heap_svg.specs.Drawing.{bar_part, bar_parts, bar_text, bottom_text, drawing_text, framed_text, top_text}
+pub use Rattle.heap_svg.specs.Drawing.{WritesDrawing, bar_open, closing_text, frame_text, height_of, middle_text, notes_text, open_text, used_slots_text}
+unfoldable pub use Rattle.heap_svg.specs.Legend.{databases_note, escaped, letter_note, size_notes}
+pub use Rattle.heap_svg.specs.Legend.{database_at, database_note, entries_note, escaped_byte, is_of_size, kinds_text, size_note, size_note_at, sizes_at}
+unfoldable pub use Rattle.heap_svg.specs.Rooms.{rooms_drawn}
+pub use Rattle.heap_svg.specs.Rooms.{AddsToRooms, compact_pieces, kept, rooms_from, sizes}
+unfoldable pub use Rattle.heap_svg.specs.Rows.{labels_text, rights_text, strip_row, strip_text, strips_text}
+pub use Rattle.heap_svg.specs.Rows.{IsRowSize, doubled, first_row, label_text, rect_text, right_of, right_text, rows_in, sizes_in, strip_part, strip_rows, title_text}
+unfoldable pub use Rattle.heap_svg.specs.Strips.{strips_of}
+pub use Rattle.heap_svg.specs.Strips.{AddsBytes, AnyHas, BeginsStrip, HasByte, HasOneMark, JoinsLast, ShowImage, all_strips, byte_mark, end_of, head_mark, head_strip, joins, longer, mark_of_byte, next_strip, strips_from}
 pub use Rattle.heap_svg.specs.declared.rooms.Room.{Room}
 pub use Rattle.heap_svg.specs.declared.strips.Strip.{Strip}
 pub use Rattle.laws_heap.proofs.Chunks.{SpelledAll-end, total-append}

@@ -1,3 +1,5 @@
+-- The loop of `piece_sizes` keeps its invariant: the sizes are those of the pieces that were
+-- passed.
 use Rattle.heap_svg.proofs.Laws.{◌-◌, length, HasPassed, HaveSizes}
 use Rattle.heap_svg.proofs.pieces.piece_sizes.Given as goal
 

@@ -1,3 +1,4 @@
+-- `rooms_in` returns the number of rooms of a row, and the largest.
 use Rattle.heap_svg.proofs.Words.{◌≤◌, length, ap, arith, drop_all, greatest, sizes_in}
 use Rattle.heap_svg.proofs.right.rooms_in.Goals as goal
 

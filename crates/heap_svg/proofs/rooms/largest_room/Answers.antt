@@ -1,3 +1,4 @@
+-- `largest_room` returns the size of the largest room.
 use Rattle.heap_svg.proofs.Words.{◌≤◌, length, ap, arith, drop_all, greatest, sizes}
 use Rattle.heap_svg.proofs.rooms.largest_room.Goals as goal
 

@@ -1,3 +1,4 @@
+-- The loop of `room_list` keeps its invariant: the rooms are those of the chunks that were passed.
 use Rattle.heap_svg.proofs.Laws.{◌-◌, length, HasPassed, HaveRooms}
 use Rattle.heap_svg.proofs.rooms.room_list.Given as goal
 

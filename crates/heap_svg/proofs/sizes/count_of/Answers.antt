@@ -1,3 +1,4 @@
+-- `count_of` returns the number of pieces of a class.
 use Rattle.heap_svg.proofs.Words.{◌≤◌, ◌∙◌, length, ap, arith, count_by, take_all, is_of_size}
 use Rattle.heap_svg.proofs.sizes.count_of.Goals as goal
 

@@ -1,3 +1,4 @@
+-- The loop of `count_of` keeps its invariant: the count is that of the pieces before this one.
 use Rattle.heap_svg.proofs.Words.{◌≡◌, ◌≤◌, take, count_by, is_of_size}
 use Rattle.heap_svg.proofs.sizes.count_of.Given as goal
 

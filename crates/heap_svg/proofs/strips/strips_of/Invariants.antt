@@ -1,3 +1,4 @@
+-- The loop of `strips_of` keeps its invariant: the strips show the chunks that were passed.
 use Rattle.heap_svg.proofs.Laws.{◌-◌, length, HasPassed, Shown}
 use Rattle.heap_svg.proofs.strips.strips_of.Given as goal
 

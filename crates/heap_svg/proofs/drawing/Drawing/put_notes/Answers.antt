@@ -1,3 +1,4 @@
+-- `put_notes` calls what writes the bar with its numbers.
 use Rattle.heap_svg.proofs.Laws.{refl, arith, rooms_drawn, small_pieces, small_rooms, largest_packed}
 use Rattle.heap_svg.proofs.drawing.Drawing.put_notes.Goals as goal
 
