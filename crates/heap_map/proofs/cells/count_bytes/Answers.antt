@@ -1,3 +1,4 @@
+-- `count_bytes` adds to each count the number of these bytes in the cell, by the laws of CellLaws.
 use Rattle.heap_map.proofs.Laws.{◌≡◌, ◌<◌, ◌+◌, ◌-◌, ◌/◌, ◌∙◌, ℕ, length, get_or, set, ap, sym, inl, inr, arith, slice_index, cases_eq, get_or-set_same, get_or-set_other, in_cell, cells_order, cells_within, cell_counted}
 use Rattle.heap_map.proofs.cells.count_bytes.Goals as goal
 

@@ -1,3 +1,5 @@
+-- The loop of `count_bytes` keeps its invariant: the cells before this one have their bytes
+-- counted, and no other count has changed.
 use Rattle.heap_map.proofs.Words.{◌≡◌, ◌+◌, ◌<◌, ◌≤◌, ℕ, ◌⊎◌, slice_index, in_cell}
 use Rattle.heap_map.proofs.cells.count_bytes.Given as goal
 

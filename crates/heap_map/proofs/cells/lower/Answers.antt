@@ -1,3 +1,4 @@
+-- `lower` changes no mark outside its range.
 use Rattle.std.proofs.Common.{inl, inr, arith}
 use Rattle.heap_map.proofs.cells.lower.Goals as goal
 

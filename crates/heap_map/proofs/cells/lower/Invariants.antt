@@ -1,3 +1,5 @@
+-- The loop of `lower` keeps its invariant: the marks before this one are lowered, and no other mark
+-- has changed.
 use Rattle.heap_map.proofs.Words.{◌≡◌, ◌<◌, ◌≤◌, ℕ, ◌⊎◌, min, slice_index}
 use Rattle.heap_map.proofs.cells.lower.Given as goal
 

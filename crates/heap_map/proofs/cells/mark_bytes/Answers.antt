@@ -1,3 +1,4 @@
+-- `mark_bytes` marks each cell that has some of these bytes, by the laws of CellLaws.
 use Rattle.heap_map.proofs.Laws.{arith, slice_index, cells_order, cells_within, cell_marked}
 use Rattle.heap_map.proofs.cells.mark_bytes.Goals as goal
 

@@ -1,3 +1,4 @@
+-- `marks_of` returns the marks of all cells of an accepted image, by the laws of CellLaws.
 use Rattle.heap_map.proofs.Laws.{◌≡◌, ◌<◌, ◌-◌, ◌*◌, ◌∙◌, ℕ, List, length, get_or, ap, arith, min, chunks_of, area_size, first_mark, free_within, mark_is, free_total_most, marks_more, marks_all}
 use Rattle.heap_map.proofs.cells.marks_of.Goals as goal
 

@@ -1,3 +1,4 @@
+-- The loop of `marks_of` keeps its invariant: the marks of the cells before this one are written.
 use Rattle.heap_map.proofs.Words.{◌≡◌, numbered, mark_at}
 use Rattle.heap_map.proofs.cells.marks_of.Given as goal
 

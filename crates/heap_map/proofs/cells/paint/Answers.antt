@@ -1,3 +1,4 @@
+-- `paint` fills clear cells with the chunks of an accepted image, by the laws of CellLaws.
 use Rattle.heap_map.proofs.Laws.{◌≡◌, ◌-◌, ◌*◌, ◌≤◌, ◌∙◌, ℕ, ◌+◌, length, ap, subst, sym, arith, rules, read_heap, HasPassed, passed_none, passed_there, passed_size, passed_all, HoldChunks, hold_none, hold_step, hold_start, header_room, free_few}
 use Rattle.heap_map.proofs.cells.paint.Goals as goal
 

@@ -1,3 +1,4 @@
+-- The loop of `paint` keeps its invariant: the cells hold the chunks that were passed.
 use Rattle.heap_map.proofs.Words.{◌≡◌, ◌-◌, length, HasPassed, HoldChunks}
 use Rattle.heap_map.proofs.cells.paint.Given as goal
 

@@ -1,3 +1,4 @@
+-- `note` gives a word that can't be a slot no number, by the laws of NumberLaws.
 use Rattle.heap_map.proofs.NumberLaws.{notes_apart}
 use Rattle.heap_map.proofs.numbers.note.Goals as goal
 

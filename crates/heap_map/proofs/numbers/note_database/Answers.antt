@@ -1,3 +1,4 @@
+-- `note_database` gives each slot that a database names its number, by the laws of NumberLaws.
 use Rattle.heap_map.proofs.Laws.{◌≡◌, ◌∷◌, ◌∙◌, [], ℕ, List, map, length, ap, subst, arith, entry_data, entry_in, numbered, NotesSlots, notes_then}
 use Rattle.store_check.proofs.UseLaws.{entries_more, entries_all, data_all}
 use Rattle.heap_map.proofs.numbers.note_database.Goals as goal

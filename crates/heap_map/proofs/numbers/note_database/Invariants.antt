@@ -1,3 +1,5 @@
+-- The loop of `note_database` keeps its invariant: the slots of the entries before this one have
+-- the number.
 use Rattle.heap_map.proofs.Words.{map, numbered, entry_data, entry_in, NotesSlots}
 use Rattle.heap_map.proofs.numbers.note_database.Given as goal
 

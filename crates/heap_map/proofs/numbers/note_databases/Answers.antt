@@ -1,3 +1,5 @@
+-- `note_databases` gives each slot the number of the database that names it, by the laws of
+-- NumberLaws.
 use Rattle.heap_map.proofs.Laws.{◌≡◌, ◌≤◌, length, ap, sym, subst, arith, directory_bytes, AreWholeBytes, listed_count, header_whole, few_listed, numbers_all}
 use Rattle.heap_map.proofs.numbers.note_databases.Goals as goal
 

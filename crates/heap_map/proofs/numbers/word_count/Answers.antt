@@ -1,3 +1,4 @@
+-- `word_count` returns the number of words that can be slots, with one table and with a chain.
 use Rattle.heap_map.proofs.Words.{◌≡◌, ◌/◌, length, sym, arith, all_within, chained_words, chained_room, plain_room}
 use Rattle.heap_map.proofs.numbers.word_count.Goals as goal
 

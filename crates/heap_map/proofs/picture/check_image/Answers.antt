@@ -1,3 +1,5 @@
+-- `check_image` refuses an image with the fault that the check of the store found, by the laws of
+-- FaultLaws.
 use Rattle.heap_map.proofs.Laws.{sym, ◌∙◌, subst, IsMapFault, fault_of, never_write, short_fault}
 use Rattle.heap_map.proofs.picture.check_image.Goals as goal
 

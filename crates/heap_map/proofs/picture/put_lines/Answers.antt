@@ -1,3 +1,4 @@
+-- `put_lines` writes no further line after a failed write, by the laws of MoreParts.
 use Rattle.heap_map.proofs.Laws.{◌≡◌, ◌*◌, ℕ, true, false, length, sym, ap, subst, ◌∙◌, arith, rules, is_ok, Writes, map_body, map_text, head_line, row_lines, tail_lines, area_start, cell_size, cell_count, marks, length-marks, cell_starts, few_cells}
 use Rattle.heap_map.proofs.MoreParts.{then_stops}
 use Rattle.heap_map.proofs.picture.put_lines.Goals as goal

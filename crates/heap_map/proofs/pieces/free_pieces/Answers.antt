@@ -1,3 +1,4 @@
+-- `free_pieces` returns the number of free pieces and the largest, by the laws of PieceLaws.
 use Rattle.heap_map.proofs.Laws.{ℕ, ◌+◌, subst, sym, arith, chunks_of, read_heap, HasPassed, passed_there, passed_size, passed_all, HaveMet, met_start, met_small, met_step, free_size_by, all_met_count, all_met_largest}
 use Rattle.heap_map.proofs.pieces.free_pieces.Goals as goal
 

@@ -1,3 +1,5 @@
+-- The loop of `free_pieces` keeps its invariant: the pieces are those of the chunks that were
+-- passed.
 use Rattle.heap_map.proofs.Laws.{◌-◌, length, HasPassed, HaveMet}
 use Rattle.heap_map.proofs.pieces.free_pieces.Given as goal
 

@@ -1,3 +1,4 @@
+-- `directory_in` returns the bytes of the directory, or none if the directory word is 0.
 use Rattle.heap_map.proofs.Words.{◌∙◌, sym, no_directory, some_directory, the_directory}
 use Rattle.heap_map.proofs.reading.directory_in.Goals as goal
 

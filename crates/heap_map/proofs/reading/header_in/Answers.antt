@@ -1,3 +1,5 @@
+-- `header_in` returns the bytes of the header that the directory lists at an index, by the laws of
+-- ReadingLaws.
 use Rattle.heap_map.proofs.Laws.{◌∙◌, ◌*◌, word_listed, header_owner, header_bytes}
 use Rattle.db_format.proofs.WordLaws.{u32_at_part}
 use Rattle.heap_map.proofs.reading.header_in.Goals as goal

@@ -1,3 +1,4 @@
+-- `managers_bytes` returns the bytes of a chunk of the manager's, by the laws of ReadingLaws.
 use Rattle.heap_map.proofs.Laws.{◌+◌, ◌∙◌, ℕ, inl, ap, arith, slice_range, all_within, managers_held, live_is, live_there, bytes_there}
 use Rattle.laws_heap.proofs.Slots.{tiled_table, whole_table}
 use Rattle.laws_store.proofs.Owners.{owned_slot}

@@ -1,3 +1,4 @@
+-- `put_database` writes the line of a database.
 use Rattle.heap_map.proofs.Words.{◌++◌, ◌∷◌, [], ℕ, subst, is_ok, Writes, then, map_database_line, name_and_count}
 use Rattle.heap_map.proofs.text.put_database.Goals as goal
 

@@ -1,3 +1,4 @@
+-- `put_databases` writes the lines of the databases of an accepted image, by the laws of LineLaws.
 use Rattle.heap_map.proofs.Laws.{◌≡◌, ◌+◌, ◌<◌, ◌≤◌, List, ℕ, true, false, length, ap, sym, subst, arith, directory_bytes, AreWholeBytes, listed_count, Writes, then, stops, nothing, map_database_line, database_line, database_lines, rest_lines, line_here, none_left, header_whole, few_listed}
 use Rattle.heap_map.proofs.text.put_databases.Goals as goal
 

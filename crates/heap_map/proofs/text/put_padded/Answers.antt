@@ -1,3 +1,4 @@
+-- `put_padded` writes a number with spaces before it, by the laws of LineLaws.
 use Rattle.heap_map.proofs.Laws.{◌∙◌, List, ℕ, false, subst, is_ok, Writes, then, stops, padded_is}
 use Rattle.heap_map.proofs.text.put_padded.Goals as goal
 

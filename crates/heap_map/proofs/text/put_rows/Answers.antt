@@ -1,3 +1,4 @@
+-- `put_rows` writes marks in rows, by the laws of LineLaws.
 use Rattle.heap_map.proofs.Laws.{◌+◌, ◌*◌, ◌<◌, ◌≤◌, List, ℕ, true, false, length, sym, subst, arith, slice_range, Writes, then, stops, nothing, row_text, row_line, row_count, row_lines, rest_lines, line_here, none_left}
 use Rattle.heap_map.proofs.text.put_rows.Goals as goal
 
