@@ -1,16 +1,14 @@
 -- The fault of a picture by that of the check.
-use Rattle.std.proofs.Common.{◌≡◌, List, ℕ, refl, sym, ap, subst, ◌∙◌, inl, inr}
-use Rattle.std.specs.Prelude.{◌⊎◌}
-use Rattle.heap_model.specs.Store.{Accepted}
+use Rattle.heap_map.proofs.Words.{◌≡◌, List, ℕ, refl, sym, ap, subst, ◌∙◌, inl, inr, ◌⊎◌, Accepted, map_fault, IsMapFault}
 use Rattle.store_check.specs.declared.fault.StoreFault.{StoreFault}
 use Rattle.store_check.specs.declared.fault.StoreFault.TheVariants as checks
 use Rattle.store_check.specs.Checks.{IsAnswered, IsRefusal}
 use Rattle.store_check.specs.Faults.{IsFirstStoreFault}
 use Rattle.heap_map.specs.declared.picture.MapFault.TheVariants.{BadImage, OutOfMemory, Write}
-use Rattle.heap_map.specs.Pictures.{map_fault, IsMapFault}
 
 -- an allocation failed, or the image is refused
-cases : (fault : StoreFault) → (fault ≡ checks.OutOfMemory) ⊎ ((fault ≡ checks.OutOfMemory → ⊥) × (BadImage fault ≡ map_fault fault))
+cases : (fault : StoreFault) → (fault ≡ checks.OutOfMemory)
+    ⊎ ((fault ≡ checks.OutOfMemory → ⊥) × (BadImage fault ≡ map_fault fault))
 cases (checks.Heap fault) = inr (λ e. cc, refl)
 cases (checks.BadDirectorySlot index) = inr (λ e. cc, refl)
 cases (checks.BadHeader db) = inr (λ e. cc, refl)
@@ -22,13 +20,20 @@ cases (checks.BadName db) = inr (λ e. cc, refl)
 cases (checks.SameName db) = inr (λ e. cc, refl)
 cases checks.OutOfMemory = inl refl
 
-pub other_fault : (fault : StoreFault) → (fault ≡ checks.OutOfMemory → ⊥) → BadImage fault ≡ map_fault fault
+pub other_fault : (fault : StoreFault) → (fault ≡ checks.OutOfMemory → ⊥)
+    → BadImage fault ≡ map_fault fault
 other_fault fault ne = elim (cases fault) [ inl short ↦ absurd (ne short) | inr other ↦ other.1 ]
 
-bad : (image : List ℕ) (fault : StoreFault) → (fault ≡ checks.OutOfMemory → ⊥) → IsAnswered image fault → IsRefusal image fault → (Accepted image → ⊥) × IsFirstStoreFault image fault
-bad image fault ne answered refusal = (elim refusal [ inl short ↦ absurd (ne short) | inr refused ↦ refused ], elim answered [ inl short ↦ absurd (ne short.0) | inr first ↦ first ])
+bad : (image : List ℕ) (fault : StoreFault) → (fault ≡ checks.OutOfMemory → ⊥)
+    → IsAnswered image fault → IsRefusal image fault
+    → (Accepted image → ⊥) × IsFirstStoreFault image fault
+bad image fault ne answered refusal = (
+  elim refusal [ inl short ↦ absurd (ne short) | inr refused ↦ refused ],
+  elim answered [ inl short ↦ absurd (ne short.0) | inr first ↦ first ],
+)
 
-pub fault_of : (image : List ℕ) (fault : StoreFault) → IsAnswered image fault → IsRefusal image fault → IsMapFault image (map_fault fault)
+pub fault_of : (image : List ℕ) (fault : StoreFault) → IsAnswered image fault
+    → IsRefusal image fault → IsMapFault image (map_fault fault)
 fault_of image fault answered refusal = elim (cases fault) [
   | inl short ↦ subst (λ (one : StoreFault). IsMapFault image (map_fault one)) (sym short) tt
   | inr other ↦ subst (IsMapFault image) other.1 (bad image fault other.0 answered refusal)
@@ -50,4 +55,5 @@ not_short : (fault : StoreFault) → BadImage fault ≡ OutOfMemory → ⊥
 not_short fault e = cc
 
 pub short_fault : (fault : StoreFault) → map_fault fault ≡ OutOfMemory → fault ≡ checks.OutOfMemory
-short_fault fault e = elim (cases fault) [ inl short ↦ short | inr other ↦ absurd (not_short fault (other.1 ∙ e)) ]
+short_fault fault e =
+    elim (cases _) [ inl short ↦ short | inr other ↦ absurd (not_short _ (other.1 ∙ e)) ]

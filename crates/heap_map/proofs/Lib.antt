@@ -1,3 +1,4 @@
+pub mod Words
 pub mod ReadingLaws
 pub mod NumberLaws
 pub mod CellLaws
@@ -5,3 +6,4 @@ pub mod LineLaws
 pub mod PieceLaws
 pub mod FaultLaws
 pub mod MoreParts
+pub mod Laws

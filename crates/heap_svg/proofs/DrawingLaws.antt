@@ -1,12 +1,7 @@
 -- What is drawn of an image.
-use Rattle.std.proofs.Common.{◌≡◌, ◌<◌, ◌≤◌, ◌-◌, ◌+◌, ◌*◌, ℕ, Bool, List, Option, length, ap, subst, sym, arith}
-use Rattle.palm_text.specs.Counted.{Writing, Writes}
+use Rattle.heap_svg.proofs.Words.{◌≡◌, ◌<◌, ◌≤◌, ◌-◌, ◌+◌, ◌*◌, ℕ, Bool, List, Option, length, ap, subst, sym, arith, Writing, Writes, Strip, WritesDrawing, drawing_text, rows_in, ShowImage}
 use Rattle.heap_svg.specs.declared.drawing.Drawing.{Drawing}
-use Rattle.heap_svg.specs.declared.strips.Strip.{Strip}
-use Rattle.heap_svg.specs.Drawing.{WritesDrawing, drawing_text}
 use Rattle.heap_svg.specs.Drawings.{HasDrawing}
-use Rattle.heap_svg.specs.Rows.{rows_in}
-use Rattle.heap_svg.specs.Strips.{ShowImage}
 use Rattle.heap_svg.proofs.RowLaws.{row_low, row_small, rows_low, few_rows}
 
 -- the sizes of the rows
@@ -17,7 +12,8 @@ pub record HasRows (size line rows : ℕ) : Type 0 where
   pub few : rows < 16777216
   pub bytes : line * rows ≤ size + (line - 1)
 
-pub drawn_rows : (image : List ℕ) (drawing : Drawing) → HasDrawing image drawing → HasRows (length image) drawing.line drawing.rows
+pub drawn_rows : (image : List ℕ) (drawing : Drawing) → HasDrawing image drawing
+    → HasRows (length image) drawing.line drawing.rows
 drawn_rows image drawing d =
     let size : ℕ = length image in
     let line = drawing.line in
@@ -31,11 +27,15 @@ drawn_rows image drawing d =
       low = low;
       short = short;
       few = omega arith;
-      bytes = subst (λ (n : ℕ). line * n ≤ size + (line - 1)) (sym is) (rows_low size line (omega arith));
+      bytes = subst (λ (n : ℕ). line * n ≤ size + (line - 1)) (sym is)
+          (rows_low size line (omega arith));
     }
 
 -- its text is the picture of the image
-pub writes_drawing : {W : Type 0} (contents : W → Option (List ℕ)) (old new : Writing W) (image : List ℕ) (drawing : Drawing) (ok : Bool) → HasDrawing image drawing → Writes contents old new (drawing_text image drawing.line drawing.rows) ok → WritesDrawing image contents old new ok
+pub writes_drawing : {W : Type 0} (contents : W → Option (List ℕ)) (old new : Writing W)
+    (image : List ℕ) (drawing : Drawing) (ok : Bool) → HasDrawing image drawing
+    → Writes contents old new (drawing_text image drawing.line drawing.rows) ok
+    → WritesDrawing image contents old new ok
 writes_drawing contents old new image drawing ok d writes = (
   drawing_text image drawing.line drawing.rows,
   record {

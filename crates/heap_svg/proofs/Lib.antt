@@ -1,3 +1,4 @@
+pub mod Words
 pub mod StripLaws
 pub mod RowLaws
 pub mod PieceLaws
@@ -5,3 +6,4 @@ pub mod RoomLaws
 pub mod ChoiceLaws
 pub mod DrawingLaws
 pub mod ChainLaws
+pub mod Laws

@@ -1,2 +1,4 @@
+pub mod Words
 pub mod SessionLaws
 pub mod TableLaws
+pub mod Laws

@@ -1,13 +1,10 @@
 -- The numbers of the kinds of faults.
-use Rattle.std.proofs.Common.{◌≡◌, ◌≤◌, ◌⊎◌, lit≤, inl, inr, refl}
+use Rattle.palmheap_c.proofs.Words.{◌≡◌, ◌≤◌, ◌⊎◌, lit≤, inl, inr, refl, ScriptFault, UnknownCommand, WrongCount, BadWord, OutOfMemory, of_file, of_heap}
 use Rattle.heap_check.specs.declared.fault.HeapFault.{HeapFault}
 use Rattle.heap_check.specs.declared.fault.HeapFault.TheVariants.{TooShort, BadMagic, BadSize, BadSlotCount, BadReserved, BadPadding, BadChunk, BadTable, SlotMismatch, ChunkWithoutSlot, BadFixedOwner, BadDirectory}
 use Rattle.heap_model.specs.declared.file_fault.FileFault.{FileFault}
 use Rattle.heap_model.specs.declared.file_fault.FileFault.TheVariants.{Truncated, ChainedList, EmptyName, BadInfo, BadOffset}
 use Rattle.heap_model.specs.declared.names.Which.TheVariants.{App, Sort}
-use Rattle.script_lines.specs.declared.fault.ScriptFault.{ScriptFault}
-use Rattle.script_lines.specs.declared.fault.ScriptFault.TheVariants.{UnknownCommand, WrongCount, BadWord, OutOfMemory}
-use Rattle.palmheap_c.specs.Answers.{of_file, of_heap}
 use Rattle.palmheap_c.specs.Kinds.{kind_of_script}
 
 pub heap_range : (fault : HeapFault) → (20 ≤ (of_heap fault).kind) × ((of_heap fault).kind ≤ 31)
@@ -32,7 +29,8 @@ file_range (BadInfo App) = (lit≤ tt, lit≤ tt)
 file_range (BadInfo Sort) = (lit≤ tt, lit≤ tt)
 file_range (BadOffset index) = (lit≤ tt, lit≤ tt)
 
-pub script_range : (fault : ScriptFault) → (kind_of_script fault ≡ 1) ⊎ ((70 ≤ kind_of_script fault) × (kind_of_script fault ≤ 72))
+pub script_range : (fault : ScriptFault)
+    → (kind_of_script fault ≡ 1) ⊎ ((70 ≤ kind_of_script fault) × (kind_of_script fault ≤ 72))
 script_range UnknownCommand = inr (lit≤ tt, lit≤ tt)
 script_range WrongCount = inr (lit≤ tt, lit≤ tt)
 script_range (BadWord word) = inr (lit≤ tt, lit≤ tt)

@@ -1,3 +1,4 @@
+pub mod Words
 pub mod AnswerLaws
 pub mod BlockLaws
 pub mod CallLaws
@@ -18,3 +19,4 @@ pub mod RunLaws
 pub mod Sized
 pub mod Values
 pub mod WriteLaws
+pub mod Laws

@@ -1,10 +1,8 @@
 -- The name of a database, from the field of C.
-use Rattle.std.proofs.Common.{◌≡◌, ◌≤◌, ℕ, List, ◌++◌, length, take, drop, replicate, min, sym, ap, ◌∙◌, inl, inr, arith, length-take, take_all}
-use Rattle.std.proofs.lemmas.Bool.{cases_lt}
-use Rattle.std.proofs.lemmas.List.{drop-replicate}
-use Rattle.heap_model.specs.Database.{name_field}
+use Rattle.palmheap_c.proofs.Words.{◌≡◌, ◌≤◌, ℕ, List, ◌++◌, length, take, drop, replicate, min, sym, ap, ◌∙◌, inl, inr, arith, length-take, take_all, cases_lt, drop-replicate, name_field}
 
-pub name_told : (bytes : List ℕ) (count : ℕ) → length bytes ≡ 32 → take 32 (take (min 32 count) bytes) ≡ take count bytes
+pub name_told : (bytes : List ℕ) (count : ℕ) → length bytes ≡ 32
+    → take 32 (take (min 32 count) bytes) ≡ take count bytes
 name_told bytes count size = elim (cases_lt count 32) [
   | inl less ↦
       let least : min 32 count ≡ count = omega arith in

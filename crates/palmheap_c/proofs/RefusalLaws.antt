@@ -1,8 +1,6 @@
 -- The numbers of refusals.
-use Rattle.std.proofs.Common.{◌≡◌, ◌≤◌, lit≤, refl, arith}
-use Rattle.heap_model.specs.Numbers.{number_of}
-use Rattle.heap_model.specs.declared.refusal.Refusal.{Refusal}
-use Rattle.heap_model.specs.declared.refusal.Refusal.TheVariants.{InvalidHandle, OwnedByDatabase, ChunkLocked, ChunkNotLocked, LockOverflow, ChunkFixed, InvalidOwner, NotEnoughSpace, OutOfBounds, NoSuchDatabase, NotRecordDatabase, NotResourceDatabase, ReadOnly, IndexOutOfRange, RecordDeleted, RecordBusy, TooManyEntries, InvalidCategory, DuplicateId, UniqueIdNotFound, AlreadyExists, InvalidName, ResourceNotFound, NoInfoBlock, BadFile, OutOfMemory, Lent}
+use Rattle.palmheap_c.proofs.Words.{◌≡◌, ◌≤◌, lit≤, refl, arith, number_of, Refusal, InvalidHandle, OwnedByDatabase, ChunkLocked, ChunkNotLocked, LockOverflow, ChunkFixed, InvalidOwner, NotEnoughSpace, OutOfBounds, NoSuchDatabase, NotRecordDatabase, NotResourceDatabase, ReadOnly, IndexOutOfRange, RecordDeleted, RecordBusy, TooManyEntries, InvalidCategory, DuplicateId, UniqueIdNotFound, AlreadyExists, InvalidName, ResourceNotFound, NoInfoBlock, BadFile}
+use Rattle.heap_model.specs.declared.refusal.Refusal.TheVariants.{OutOfMemory, Lent}
 
 -- they are 1 to 27
 pub is_in_range : (refusal : Refusal) → (1 ≤ number_of refusal) × (number_of refusal ≤ 27)

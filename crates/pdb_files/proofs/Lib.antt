@@ -1,3 +1,4 @@
+pub mod Words
 pub mod FileTexts
 pub mod FileLengths
 pub mod Contents
@@ -9,3 +10,4 @@ pub mod FilledChunks
 pub mod Refusals
 pub mod ReadDatabases
 pub mod LongBlocks
+pub mod Laws

@@ -1,21 +1,16 @@
 -- One entry of a file is planned, and then each of them.
-use Rattle.std.proofs.Common.{◌≡◌, ℕ, ◌+◌, ◌-◌, ◌<◌, Bool, true, false, Option, Some, None, List, [], ◌∷◌, ◌++◌, length, get_or, refl, sym, ap, subst, ◌∙◌, arith, length-append, inl, inr}
-use Rattle.std.specs.Prelude.{IsSome}
-use Rattle.std.proofs.lemmas.Bool.{cases_lt}
-use Rattle.std.proofs.lemmas.List.{get_or_append_left, get_or-append_right}
-use Rattle.heap_model.specs.Database.{Entry, a_record, a_resource, is_deleted, resources_in, entry_count_in, entry_in}
-use Rattle.heap_model.specs.Files.{HasNoFault, blocks_in, idle_attributes}
-use Rattle.heap_model.specs.FileSteps.{size_of_block}
-use Rattle.palm_store.specs.WholeDatabases.{WholeEntry}
+use Rattle.pdb_files.proofs.Words.{◌≡◌, ℕ, ◌+◌, ◌-◌, ◌<◌, Bool, true, false, Option, Some, None, List, [], ◌∷◌, ◌++◌, length, get_or, refl, sym, ap, subst, ◌∙◌, arith, length-append, inl, inr, IsSome, cases_lt, get_or_append_left, get_or-append_right, Entry, a_record, a_resource, is_deleted, resources_in, entry_count_in, entry_in, HasNoFault, blocks_in, idle_attributes, size_of_block, WholeEntry, HasIdsFor, IsPlannedAs, id_planned, IsPlannedOf, ArePlannedOf, none_planned, record_block, resource_block}
 use Rattle.palm_store.specs.declared.entries.infos.EntryInfo.TheVariants as infos
 use Rattle.pdb_format.proofs.WrittenFiles.{still_deleted}
-use Rattle.pdb_format.specs.ReadFiles.{HasIdsFor}
-use Rattle.pdb_files.specs.Plans.{IsPlannedAs, id_planned, IsPlannedOf, ArePlannedOf}
-use Rattle.pdb_format.proofs.FileBlocks.{none_planned, record_block, resource_block}
 
-pub record_planned : (file ids : List ℕ) (index attributes id at given idle : ℕ) (size : Option ℕ) → HasNoFault file → index < entry_count_in file → HasIdsFor file ids → a_record attributes id at ≡ entry_in file index → false ≡ resources_in file
-    → size ≡ size_of_block (get_or (blocks_in file) (2 + index) None) → idle ≡ idle_attributes attributes → given ≡ get_or ids index 0 → IsPlannedOf file ids index (infos.Record idle given, size)
-record_planned file ids index attributes id at given idle size good inside have is kind sized clear gives =
+pub record_planned : (file ids : List ℕ) (index attributes id at given idle : ℕ) (size : Option ℕ)
+    → HasNoFault file → index < entry_count_in file → HasIdsFor file ids
+    → a_record attributes id at ≡ entry_in file index → false ≡ resources_in file
+    → size ≡ size_of_block (get_or (blocks_in file) (2 + index) None)
+    → idle ≡ idle_attributes attributes → given ≡ get_or ids index 0
+    → IsPlannedOf file ids index (infos.Record idle given, size)
+record_planned file ids index attributes id at given idle size good inside have is kind sized clear
+    gives =
     let count = have.count (sym kind) in
     let fit = have.fit index 0 (omega arith) in
     let some = fit.0 in
@@ -29,7 +24,8 @@ record_planned file ids index attributes id at given idle size good inside have 
         omega arith,
         omega arith,
         λ none. ap is_deleted clear ∙ still_deleted attributes
-            ∙ record_block file index attributes id at good inside is (none_planned file index (a_record attributes id at) inside is (sym sized ∙ none)),
+            ∙ record_block file index attributes id at good inside is
+            (none_planned file index (a_record attributes id at) inside is (sym sized ∙ none)),
       );
     }
 
@@ -38,9 +34,12 @@ some_size None some = absurd (some refl)
 some_size (Some n) some = refl
 
 -- the block of a resource is there
-pub resource_has_size : (file : List ℕ) (index kind id at : ℕ) (size : Option ℕ) → HasNoFault file → index < entry_count_in file → a_resource kind id at ≡ entry_in file index → size ≡ size_of_block (get_or (blocks_in file) (2 + index) None) → IsSome size
+pub resource_has_size : (file : List ℕ) (index kind id at : ℕ) (size : Option ℕ) → HasNoFault file
+    → index < entry_count_in file → a_resource kind id at ≡ entry_in file index
+    → size ≡ size_of_block (get_or (blocks_in file) (2 + index) None) → IsSome size
 resource_has_size file index kind id at size good inside is sized =
-    some_size size (λ none. resource_block file index kind id at good inside is (none_planned file index (a_resource kind id at) inside is (sym sized ∙ none)))
+    some_size size (λ none. resource_block file index kind id at good inside is
+    (none_planned file index (a_resource kind id at) inside is (sym sized ∙ none)))
 
 pub resource_planned : (file ids : List ℕ) (index kind id at : ℕ) (size : Option ℕ)
     → a_resource kind id at ≡ entry_in file index → true ≡ resources_in file
@@ -55,18 +54,25 @@ resource_planned file ids index kind id at size is resources sized some = record
 
 -- ---- one after the other
 
-pub one_more : (file ids : List ℕ) (entries : List WholeEntry) (count : ℕ) (entry : WholeEntry) → ArePlannedOf file ids entries count → IsPlannedOf file ids count entry → ArePlannedOf file ids (entries ++ entry ∷ []) (count + 1)
+pub one_more : (file ids : List ℕ) (entries : List WholeEntry) (count : ℕ) (entry : WholeEntry)
+    → ArePlannedOf file ids entries count → IsPlannedOf file ids count entry
+    → ArePlannedOf file ids (entries ++ entry ∷ []) (count + 1)
 one_more file ids entries count entry are is =
     let long = are.long in
     let more = length-append entries (entry ∷ []) in
     record {
       long = omega arith;
       each = λ index d below. elim (cases_lt index count) [
-        | inl before ↦ subst (IsPlannedOf file ids index) (sym (get_or_append_left entries (entry ∷ []) d index (omega arith))) (are.each index d before)
+        | inl before ↦ subst (IsPlannedOf file ids index)
+            (sym (get_or_append_left entries (entry ∷ []) d index (omega arith)))
+            (are.each index d before)
         | inr last ↦
             let here : index ≡ count = omega arith in
             let first : index - length entries ≡ 0 = omega arith in
-            let at : get_or (entries ++ entry ∷ []) index d ≡ entry = get_or-append_right entries (entry ∷ []) (length entries) index d refl (omega arith) ∙ ap (λ (k : ℕ). get_or (entry ∷ []) k d) first in
-            subst (λ (k : ℕ). IsPlannedOf file ids k (get_or (entries ++ entry ∷ []) index d)) (sym here) (subst (IsPlannedOf file ids count) (sym at) is)
+            let at : get_or (entries ++ entry ∷ []) index d ≡ entry =
+            get_or-append_right entries (entry ∷ []) (length entries) index d refl (omega arith)
+            ∙ ap (λ (k : ℕ). get_or (entry ∷ []) k d) first in
+            subst (λ (k : ℕ). IsPlannedOf file ids k (get_or (entries ++ entry ∷ []) index d))
+            (sym here) (subst (IsPlannedOf file ids count) (sym at) is)
       ];
     }

@@ -1,6 +1,5 @@
-use Rattle.std.proofs.Common.{◌≡◌}
-use Rattle.heap_model.specs.Lists.{numbered}
-use Rattle.heap_map.specs.Cells.{mark_at}
+-- The loop of `marks_of` keeps its invariant: the marks of the cells before this one are written.
+use Rattle.heap_map.proofs.Words.{◌≡◌, numbered, mark_at}
 use Rattle.heap_map.proofs.cells.marks_of.Given as goal
 
 abbrev pub invariant-loop-k : goal.invariant-loop-k

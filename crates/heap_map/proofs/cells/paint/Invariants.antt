@@ -1,6 +1,5 @@
-use Rattle.std.proofs.Common.{◌≡◌, ◌-◌, length}
-use Rattle.heap_check.proofs.WalkLaws.{HasPassed}
-use Rattle.heap_map.specs.Cells.{HoldChunks}
+-- The loop of `paint` keeps its invariant: the cells hold the chunks that were passed.
+use Rattle.heap_map.proofs.Words.{◌≡◌, ◌-◌, length, HasPassed, HoldChunks}
 use Rattle.heap_map.proofs.cells.paint.Given as goal
 
 abbrev pub invariant-loop-at : goal.invariant-loop-at

@@ -1,8 +1,8 @@
-use Rattle.std.proofs.Common.{map}
-use Rattle.heap_model.specs.Lists.{numbered}
-use Rattle.heap_model.specs.Database.{entry_data, entry_in}
-use Rattle.heap_map.specs.Numbers.{NotesSlots}
+-- The loop of `note_database` keeps its invariant: the slots of the entries before this one have
+-- the number.
+use Rattle.heap_map.proofs.Words.{map, numbered, entry_data, entry_in, NotesSlots}
 use Rattle.heap_map.proofs.numbers.note_database.Given as goal
 
 abbrev pub invariant-loop-index : goal.invariant-loop-index
-invariant-loop-index l = NotesSlots (map entry_data (numbered (entry_in l.header) l.index)) l.number l.initial.table l.table
+invariant-loop-index l = NotesSlots (map entry_data (numbered (entry_in l.header) l.index)) l.number
+    l.initial.table l.table

@@ -1,3 +1,5 @@
+-- The loop of `note_databases` keeps its invariant: each slot has the number of the last database
+-- before this one that names it.
 use Rattle.heap_map.specs.Numbers.{HasNumbers, last_naming_below}
 use Rattle.heap_map.proofs.numbers.note_databases.Given as goal
 

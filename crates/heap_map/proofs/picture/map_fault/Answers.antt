@@ -1,3 +1,4 @@
+-- `map_fault` returns each fault but that of memory as `BadImage`, by the laws of FaultLaws.
 use Rattle.heap_map.proofs.FaultLaws.{other_fault}
 use Rattle.heap_map.proofs.picture.map_fault.Goals as goal
 

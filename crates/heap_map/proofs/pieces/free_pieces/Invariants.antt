@@ -1,6 +1,6 @@
-use Rattle.std.proofs.Common.{◌-◌, length}
-use Rattle.heap_check.proofs.WalkLaws.{HasPassed}
-use Rattle.heap_map.proofs.PieceLaws.{HaveMet}
+-- The loop of `free_pieces` keeps its invariant: the pieces are those of the chunks that were
+-- passed.
+use Rattle.heap_map.proofs.Laws.{◌-◌, length, HasPassed, HaveMet}
 use Rattle.heap_map.proofs.pieces.free_pieces.Given as goal
 
 abbrev pub invariant-loop-at : goal.invariant-loop-at

@@ -1,39 +1,41 @@
-use Rattle.std.proofs.Common.{◌+◌, ◌∙◌, ℕ, inl, ap, arith}
-use Rattle.std.specs.Prelude.{slice_range}
-use Rattle.laws_heap.proofs.Lending.{all_within}
+-- `managers_bytes` returns the bytes of a chunk of the manager's, by the laws of ReadingLaws.
+use Rattle.heap_map.proofs.Laws.{◌+◌, ◌∙◌, ℕ, inl, ap, arith, slice_range, all_within, managers_held, live_is, live_there, bytes_there}
 use Rattle.laws_heap.proofs.Slots.{tiled_table, whole_table}
 use Rattle.laws_store.proofs.Owners.{owned_slot}
-use Rattle.store_check.proofs.LookupLaws.{managers_held}
-use Rattle.heap_map.proofs.ReadingLaws.{live_is, live_there, bytes_there}
 use Rattle.heap_map.proofs.reading.managers_bytes.Goals as goal
 
 pub word_of-place-requires-clause-table : goal.word_of-place-requires-clause-table
-word_of-place-requires-clause-table c = whole_table c.args.region.now c.requires.whole (tiled_table c.args.region.now.bytes c.requires.accepted.0 c.requires.accepted.1.tiles)
+word_of-place-requires-clause-table c =
+    whole_table _ c.requires.whole (tiled_table _ _ c.requires.accepted.1.tiles)
 
 pub word_of-place-requires-clause-slot : goal.word_of-place-requires-clause-slot
-word_of-place-requires-clause-slot c = owned_slot c.args.region.now.bytes c.args.slot c.requires.accepted (inl c.requires.managers)
+word_of-place-requires-clause-slot c = owned_slot _ _ c.requires.accepted (inl c.requires.managers)
 
 pub overflow_sub-place : goal.overflow_sub-place
-overflow_sub-place c = let low = (managers_held c.args.region.now.bytes c.args.slot c.word_of-place.result c.requires.accepted c.requires.managers c.word_of-place.ensures).behind_header in omega arith
+overflow_sub-place c = let low = (managers_held _ _ _ c.requires.accepted c.requires.managers
+    c.word_of-place.ensures).behind_header in omega arith
 
 pub live_fields-length-requires-clause-live : goal.live_fields-length-requires-clause-live
-live_fields-length-requires-clause-live c =
-    live_there c.args.region.now.bytes c.args.slot c.word_of-place.result c.requires.accepted (managers_held c.args.region.now.bytes c.args.slot c.word_of-place.result c.requires.accepted c.requires.managers c.word_of-place.ensures)
+live_fields-length-requires-clause-live c = live_there _ _ _ c.requires.accepted
+    (managers_held _ _ _ c.requires.accepted c.requires.managers c.word_of-place.ensures)
 
 pub slice-requires : goal.slice-requires
 slice-requires c =
     let image = c.args.region.now.bytes in
-    let s = managers_held image c.args.slot c.word_of-place.result c.requires.accepted c.requires.managers c.word_of-place.ensures in
+    let s = managers_held _ _ _ c.requires.accepted c.requires.managers c.word_of-place.ensures in
     let live = live_is image c.args.slot c.word_of-place.result c.requires.accepted s in
-    let long = (c.live_fields-length.ensures s.live.bytes s.live.lock s.live.owner live.0 live.1).0 in
+    let long =
+    (c.live_fields-length.ensures s.live.bytes s.live.lock s.live.owner live.0 live.1).0 in
     let inside = (bytes_there image c.args.slot c.word_of-place.result c.requires.accepted s).1 in
-    all_within c.args.region.now c.word_of-place.result c.live_fields-length.result.length c.requires.whole (omega (arith, long, inside))
+    all_within _ _ _ c.requires.whole (omega (arith, long, inside))
 
 pub returns : goal.returns
 returns c =
     let image = c.args.region.now.bytes in
     let place = c.word_of-place.result in
-    let s = managers_held image c.args.slot place c.requires.accepted c.requires.managers c.word_of-place.ensures in
+    let s = managers_held _ _ _ c.requires.accepted c.requires.managers c.word_of-place.ensures in
     let live = live_is image c.args.slot place c.requires.accepted s in
-    let long = (c.live_fields-length.ensures s.live.bytes s.live.lock s.live.owner live.0 live.1).0 in
-    c.slice.ensures ∙ ap (λ (n : ℕ). slice_range image place (place + n)) long ∙ (bytes_there image c.args.slot place c.requires.accepted s).0
+    let long =
+    (c.live_fields-length.ensures s.live.bytes s.live.lock s.live.owner live.0 live.1).0 in
+    c.slice.ensures ∙ ap (λ n. slice_range image place (place + n)) long
+    ∙ (bytes_there _ _ _ c.requires.accepted s).0

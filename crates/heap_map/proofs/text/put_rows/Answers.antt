@@ -1,9 +1,5 @@
-use Rattle.std.proofs.Common.{◌+◌, ◌*◌, ◌<◌, ◌≤◌, List, ℕ, true, false, length, sym, subst, arith}
-use Rattle.std.specs.Prelude.{slice_range}
-use Rattle.palm_text.specs.Counted.{Writes}
-use Rattle.palm_text.proofs.Parts.{then, stops, nothing}
-use Rattle.heap_map.specs.Text.{row_text, row_line, row_count, row_lines}
-use Rattle.heap_map.proofs.LineLaws.{rest_lines, line_here, none_left}
+-- `put_rows` writes marks in rows, by the laws of LineLaws.
+use Rattle.heap_map.proofs.Laws.{◌+◌, ◌*◌, ◌<◌, ◌≤◌, List, ℕ, true, false, length, sym, subst, arith, slice_range, Writes, then, stops, nothing, row_text, row_line, row_count, row_lines, rest_lines, line_here, none_left}
 use Rattle.heap_map.proofs.text.put_rows.Goals as goal
 
 pub loop-row-init : goal.loop-row-init
@@ -16,10 +12,11 @@ loop-row-preserved g c = λ new ok w.
     let each = row_line c.args.start c.args.size marks in
     let i = c.loop-row.row in
     let inside : i < row_count (length marks) = omega arith in
-    let line = subst (λ (end : ℕ). Writes g.W.Write.contents c.loop-row.out c.put_row.new.out (row_text (c.args.start + c.args.size * (64 * i)) (slice_range marks (64 * i) end)) true) c.min-end.ensures c.in-Ok.ensures in
+    let line = rw c.min-end.ensures at c.in-Ok.ensures in
     c.loop-row.invariant new ok
-    (subst (λ (text : List ℕ). Writes g.W.Write.contents c.loop-row.out new text ok) (sym (line_here each (row_count (length marks)) i inside))
-    (then g.W.Write.contents c.loop-row.out c.put_row.new.out new (each i) (rest_lines each (row_count (length marks)) (i + 1)) ok line w))
+    (subst (λ (text : List ℕ). Writes g.W.Write.contents c.loop-row.out new text ok)
+    (sym (line_here each _ i inside)) (then g.W.Write.contents c.loop-row.out c.put_row.new.out new
+    (each i) (rest_lines each (row_count (length marks)) (i + 1)) ok line w))
 
 pub returns-in-Err : goal.returns-in-Err
 returns-in-Err g c =
@@ -27,10 +24,11 @@ returns-in-Err g c =
     let each = row_line c.args.start c.args.size marks in
     let i = c.loop-row.row in
     let inside : i < row_count (length marks) = omega arith in
-    let line = subst (λ (end : ℕ). Writes g.W.Write.contents c.loop-row.out c.put_row.new.out (row_text (c.args.start + c.args.size * (64 * i)) (slice_range marks (64 * i) end)) false) c.min-end.ensures c.in-Err.ensures in
+    let line = rw c.min-end.ensures at c.in-Err.ensures in
     c.loop-row.invariant c.put_row.new.out false
-    (subst (λ (text : List ℕ). Writes g.W.Write.contents c.loop-row.out c.put_row.new.out text false) (sym (line_here each (row_count (length marks)) i inside))
-    (stops g.W.Write.contents c.loop-row.out c.put_row.new.out (each i) (rest_lines each (row_count (length marks)) (i + 1)) line))
+    (subst (λ (text : List ℕ). Writes g.W.Write.contents c.loop-row.out c.put_row.new.out text
+    false) (sym (line_here each _ i inside)) (stops g.W.Write.contents c.loop-row.out
+    c.put_row.new.out (each i) (rest_lines each (row_count (length marks)) (i + 1)) line))
 
 pub returns : goal.returns
 returns g c =
@@ -39,4 +37,4 @@ returns g c =
     let i = c.loop-row.row in
     let past : row_count (length marks) ≤ i = omega arith in
     c.loop-row.invariant c.loop-row.out true
-    (subst (λ (text : List ℕ). Writes g.W.Write.contents c.loop-row.out c.loop-row.out text true) (sym (none_left each (row_count (length marks)) i past)) (nothing g.W.Write.contents c.loop-row.out))
+    (rw (none_left each _ i past) (nothing g.W.Write.contents c.loop-row.out))

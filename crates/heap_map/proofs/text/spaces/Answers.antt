@@ -1,3 +1,4 @@
+-- `spaces` returns `count` spaces, by the laws of LineLaws.
 use Rattle.heap_map.proofs.LineLaws.{spaces_are}
 use Rattle.heap_map.proofs.text.spaces.Goals as goal
 

@@ -1,5 +1,6 @@
-use Rattle.std.proofs.Common.{◌≡◌, ◌≤◌, ◌<◌, ◌*◌, ◌-◌, ℕ}
-use Rattle.heap_svg.specs.Rows.{doubled}
+-- The loop of `row_size` keeps its invariant: the size is a power of two from 64 on, and half of it
+-- gives too many rows.
+use Rattle.heap_svg.proofs.Words.{◌≡◌, ◌≤◌, ◌<◌, ◌*◌, ◌-◌, ℕ, doubled}
 use Rattle.heap_svg.proofs.bytes_of_rows.row_size.Given as goal
 
 abbrev pub invariant-loop-line : goal.invariant-loop-line

@@ -1,6 +1,5 @@
-use Rattle.std.proofs.Common.{ℕ, length, ap, ◌∙◌, subst, arith}
-use Rattle.heap_svg.specs.Rows.{IsRowSize, rows_in}
-use Rattle.heap_svg.proofs.RowLaws.{row_low, row_small}
+-- `draw` finds what is drawn of an accepted image, by the laws of DrawingLaws.
+use Rattle.heap_svg.proofs.Laws.{ℕ, length, ap, ◌∙◌, subst, arith, IsRowSize, rows_in, row_low, row_small}
 use Rattle.heap_svg.proofs.drawing.draw.Goals as goal
 
 pub row_size-line-requires : goal.row_size-line-requires
@@ -31,8 +30,9 @@ returns-clause-drawing g c = record {
   rooms = c.in_ok-rooms.ensures.all;
   left_count = c.in_ok-rooms.ensures.count;
   left_largest = c.in_ok-rooms.ensures.largest;
-  line = subst (λ (n : ℕ). IsRowSize n c.row_size-line.result) c.requires.summary.heap.size c.row_size-line.ensures;
-  rows = c.row_count.ensures ∙ ap (λ (n : ℕ). rows_in n c.row_size-line.result) c.requires.summary.heap.size;
+  line = rw c.requires.summary.heap.size at c.row_size-line.ensures;
+  rows =
+      c.row_count.ensures ∙ ap (λ n. rows_in n c.row_size-line.result) c.requires.summary.heap.size;
   strips = c.in_ok-strips.ensures.exact;
   shown = c.in_ok-strips.ensures.shown;
 }

@@ -1,7 +1,5 @@
-use Rattle.std.proofs.Common.{◌+◌, ◌-◌, ℕ, is_ok, subst}
-use Rattle.palm_text.specs.Counted.{Writes}
-use Rattle.palm_text.proofs.Parts.{then}
-use Rattle.heap_svg.specs.Drawing.{bar_open, bar_parts, bar_text}
+-- `put_bar` writes the bar for an image of this size.
+use Rattle.heap_svg.proofs.Words.{◌+◌, ◌-◌, ℕ, is_ok, subst, Writes, then, bar_open, bar_parts, bar_text}
 use Rattle.heap_svg.proofs.frame.put_bar.Goals as goal
 
 pub returns : goal.returns
@@ -10,5 +8,7 @@ returns g c =
     let size = c.args.size in
     let bar = c.args.bar in
     let used = size - bar.free in
-    let parts = subst (λ (n : ℕ). Writes g.W.Write.contents c.put_bar_open.new.out c.put_bar_parts.new.out (bar_parts n (n + bar.largest) (n + bar.most) size) (is_ok c.put_bar_parts.result)) c.saturating_sub-used.ensures c.put_bar_parts.ensures in
-    then g.W.Write.contents c.args.out.now c.put_bar_open.new.out c.put_bar_parts.new.out (bar_open size) (bar_parts used (used + bar.largest) (used + bar.most) size) (is_ok c.put_bar_parts.result) c.in_ok-put_bar_open.ensures parts
+    let parts = rw c.saturating_sub-used.ensures at c.put_bar_parts.ensures in
+    then g.W.Write.contents c.args.out.now c.put_bar_open.new.out c.put_bar_parts.new.out
+    (bar_open size) (bar_parts used (used + bar.largest) (used + bar.most) size)
+    (is_ok c.put_bar_parts.result) c.in_ok-put_bar_open.ensures parts

@@ -1,6 +1,6 @@
-use Rattle.std.proofs.Common.{◌-◌, length}
-use Rattle.heap_check.proofs.WalkLaws.{HasPassed}
-use Rattle.heap_svg.proofs.PieceLaws.{HaveSizes}
+-- The loop of `piece_sizes` keeps its invariant: the sizes are those of the pieces that were
+-- passed.
+use Rattle.heap_svg.proofs.Laws.{◌-◌, length, HasPassed, HaveSizes}
 use Rattle.heap_svg.proofs.pieces.piece_sizes.Given as goal
 
 abbrev pub invariant-loop-at : goal.invariant-loop-at

@@ -1,9 +1,5 @@
-use Rattle.std.proofs.Common.{◌+◌, ◌<◌, ◌≤◌, List, ℕ, true, false, sym, subst, arith}
-use Rattle.palm_text.specs.Counted.{Writes}
-use Rattle.palm_text.proofs.Parts.{then, stops, nothing}
-use Rattle.heap_svg.specs.Rows.{first_row, strip_rows, strip_part, strip_text}
-use Rattle.heap_map.proofs.LineLaws.{rest_lines, line_here, none_left}
-use Rattle.heap_svg.proofs.RowLaws.{row_starts, row_few}
+-- `put_strip` writes a rectangle in each row that a strip touches.
+use Rattle.heap_svg.proofs.Laws.{◌+◌, ◌<◌, ◌≤◌, List, ℕ, true, false, sym, subst, arith, Writes, then, stops, nothing, first_row, strip_rows, strip_part, strip_text, rest_lines, line_here, none_left, row_starts, row_few}
 use Rattle.heap_svg.proofs.rectangles.put_strip.Goals as goal
 
 pub loop-i-init : goal.loop-i-init
@@ -27,8 +23,10 @@ loop-i-preserved g c = λ new ok w.
     let i = c.loop-i.i in
     let inside : i < strip_rows line strip = omega arith in
     c.loop-i.invariant new ok
-    (subst (λ (text : List ℕ). Writes g.W.Write.contents c.loop-i.out new text ok) (sym (line_here (strip_part line strip) (strip_rows line strip) i inside))
-    (then g.W.Write.contents c.loop-i.out c.put_part.new.out new (strip_part line strip i) (rest_lines (strip_part line strip) (strip_rows line strip) (i + 1)) ok c.in-Ok.ensures w))
+    (subst (λ (text : List ℕ). Writes g.W.Write.contents c.loop-i.out new text ok)
+    (sym (line_here (strip_part line strip) _ i inside))
+    (then g.W.Write.contents c.loop-i.out c.put_part.new.out new (strip_part line strip i)
+    (rest_lines (strip_part line strip) (strip_rows line strip) (i + 1)) ok c.in-Ok.ensures w))
 
 pub returns-in-Err : goal.returns-in-Err
 returns-in-Err g c =
@@ -37,8 +35,10 @@ returns-in-Err g c =
     let i = c.loop-i.i in
     let inside : i < strip_rows line strip = omega arith in
     c.loop-i.invariant c.put_part.new.out false
-    (subst (λ (text : List ℕ). Writes g.W.Write.contents c.loop-i.out c.put_part.new.out text false) (sym (line_here (strip_part line strip) (strip_rows line strip) i inside))
-    (stops g.W.Write.contents c.loop-i.out c.put_part.new.out (strip_part line strip i) (rest_lines (strip_part line strip) (strip_rows line strip) (i + 1)) c.in-Err.ensures))
+    (subst (λ (text : List ℕ). Writes g.W.Write.contents c.loop-i.out c.put_part.new.out text false)
+    (sym (line_here (strip_part line strip) _ i inside))
+    (stops g.W.Write.contents c.loop-i.out c.put_part.new.out (strip_part line strip i)
+    (rest_lines (strip_part line strip) (strip_rows line strip) (i + 1)) c.in-Err.ensures))
 
 pub returns : goal.returns
 returns g c =
@@ -47,4 +47,4 @@ returns g c =
     let i = c.loop-i.i in
     let past : strip_rows line strip ≤ i = omega arith in
     c.loop-i.invariant c.loop-i.out true
-    (subst (λ (text : List ℕ). Writes g.W.Write.contents c.loop-i.out c.loop-i.out text true) (sym (none_left (strip_part line strip) (strip_rows line strip) i past)) (nothing g.W.Write.contents c.loop-i.out))
+    (rw (none_left (strip_part line strip) _ i past) (nothing g.W.Write.contents c.loop-i.out))

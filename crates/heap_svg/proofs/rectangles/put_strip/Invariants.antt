@@ -1,9 +1,9 @@
-use Rattle.std.proofs.Common.{Bool}
-use Rattle.palm_text.specs.Counted.{Writing, Writes}
-use Rattle.heap_svg.specs.Rows.{strip_part, strip_rows, strip_text}
-use Rattle.heap_map.proofs.LineLaws.{rest_lines}
+-- The loop of `put_strip` keeps its invariant: whatever is written from here on completes the
+-- strip.
+use Rattle.heap_svg.proofs.Words.{Bool, Writing, Writes, strip_part, strip_rows, strip_text, rest_lines}
 use Rattle.heap_svg.proofs.rectangles.put_strip.Given as goal
 
--- whatever is written from here on completes the strip
 abbrev pub invariant-loop-i : goal.invariant-loop-i
-invariant-loop-i g l = (new : Writing g.row.W.Denot) (ok : Bool) → Writes g.W.Write.contents l.out new (rest_lines (strip_part l.line l.strip) (strip_rows l.line l.strip) l.i) ok → Writes g.W.Write.contents l.fn.out new (strip_text l.line l.strip) ok
+invariant-loop-i g l = (new : Writing g.row.W.Denot) (ok : Bool) → Writes g.W.Write.contents l.out
+    new (rest_lines (strip_part l.line l.strip) (strip_rows l.line l.strip) l.i) ok
+    → Writes g.W.Write.contents l.fn.out new (strip_text l.line l.strip) ok

@@ -1,7 +1,5 @@
-use Rattle.std.proofs.Common.{◌≤◌, length, ap, arith}
-use Rattle.std.proofs.lemmas.List.{drop_all}
-use Rattle.heap_model.specs.Space.{greatest}
-use Rattle.heap_svg.specs.Rows.{sizes_in}
+-- `rooms_in` returns the number of rooms of a row, and the largest.
+use Rattle.heap_svg.proofs.Words.{◌≤◌, length, ap, arith, drop_all, greatest, sizes_in}
 use Rattle.heap_svg.proofs.right.rooms_in.Goals as goal
 
 pub returns-clause-count : goal.returns-clause-count

@@ -1,7 +1,5 @@
-use Rattle.std.proofs.Common.{◌≤◌, length, ap, arith}
-use Rattle.std.proofs.lemmas.List.{drop_all}
-use Rattle.heap_model.specs.Space.{greatest}
-use Rattle.heap_svg.specs.Rooms.{sizes}
+-- `largest_room` returns the size of the largest room.
+use Rattle.heap_svg.proofs.Words.{◌≤◌, length, ap, arith, drop_all, greatest, sizes}
 use Rattle.heap_svg.proofs.rooms.largest_room.Goals as goal
 
 pub returns : goal.returns

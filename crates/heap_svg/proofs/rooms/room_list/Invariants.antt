@@ -1,6 +1,5 @@
-use Rattle.std.proofs.Common.{◌-◌, length}
-use Rattle.heap_check.proofs.WalkLaws.{HasPassed}
-use Rattle.heap_svg.proofs.RoomLaws.{HaveRooms}
+-- The loop of `room_list` keeps its invariant: the rooms are those of the chunks that were passed.
+use Rattle.heap_svg.proofs.Laws.{◌-◌, length, HasPassed, HaveRooms}
 use Rattle.heap_svg.proofs.rooms.room_list.Given as goal
 
 abbrev pub invariant-loop-at : goal.invariant-loop-at

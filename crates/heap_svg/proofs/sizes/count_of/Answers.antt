@@ -1,7 +1,5 @@
-use Rattle.std.proofs.Common.{◌≤◌, ◌∙◌, length, ap, arith}
-use Rattle.std.specs.Prelude.{count_by}
-use Rattle.std.proofs.lemmas.List.{take_all}
-use Rattle.heap_svg.specs.Legend.{is_of_size}
+-- `count_of` returns the number of pieces of a class.
+use Rattle.heap_svg.proofs.Words.{◌≤◌, ◌∙◌, length, ap, arith, count_by, take_all, is_of_size}
 use Rattle.heap_svg.proofs.sizes.count_of.Goals as goal
 
 pub returns : goal.returns

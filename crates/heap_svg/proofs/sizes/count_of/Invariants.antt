@@ -1,6 +1,5 @@
-use Rattle.std.proofs.Common.{◌≡◌, ◌≤◌, take}
-use Rattle.std.specs.Prelude.{count_by}
-use Rattle.heap_svg.specs.Legend.{is_of_size}
+-- The loop of `count_of` keeps its invariant: the count is that of the pieces before this one.
+use Rattle.heap_svg.proofs.Words.{◌≡◌, ◌≤◌, take, count_by, is_of_size}
 use Rattle.heap_svg.proofs.sizes.count_of.Given as goal
 
 abbrev pub invariant-loop-size : goal.invariant-loop-size

@@ -1,6 +1,5 @@
-use Rattle.std.proofs.Common.{◌-◌, length}
-use Rattle.heap_check.proofs.WalkLaws.{HasPassed}
-use Rattle.heap_svg.proofs.StripLaws.{Shown}
+-- The loop of `strips_of` keeps its invariant: the strips show the chunks that were passed.
+use Rattle.heap_svg.proofs.Laws.{◌-◌, length, HasPassed, Shown}
 use Rattle.heap_svg.proofs.strips.strips_of.Given as goal
 
 abbrev pub invariant-loop-at : goal.invariant-loop-at

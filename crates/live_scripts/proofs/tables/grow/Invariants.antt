@@ -1,8 +1,7 @@
-use Rattle.std.proofs.Common.{◌≡◌, ◌-◌, length}
-use Rattle.script_calls.specs.Lines.{table}
+-- The loop of `grow` keeps its invariant: the new items stand for no binding.
+use Rattle.live_scripts.proofs.Words.{◌≡◌, ◌-◌, length, table}
 use Rattle.live_scripts.proofs.tables.grow.Given as goal
 
--- the new items stand for no binding
 abbrev pub invariant-loop-unbound : goal.invariant-loop-unbound
 invariant-loop-unbound g l = table l.unbound l.items.items ≡ table l.unbound l.fn.items.items
 

@@ -1,6 +1,8 @@
+-- `palmheap_DmCreateDatabase` does that call on the store, by the laws of CallLaws.
 use Rattle.std.proofs.Common.{refl}
 use Rattle.palmheap_c.proofs.CallLaws.{is_done}
 use Rattle.palmheap_c.proofs.database_calls.palmheap_DmCreateDatabase.Goals as goal
 
 pub returns-in-Ok-clause-does : goal.returns-in-Ok-clause-does
-returns-in-Ok-clause-does c = is_done (rw c.of.ensures at (rw c.as_mut.ensures.value at c.in-Ok.ensures.does)) refl
+returns-in-Ok-clause-does c =
+    is_done (rw c.of.ensures at (rw c.as_mut.ensures.value at c.in-Ok.ensures.does)) refl

@@ -1,6 +1,8 @@
+-- `palmheap_take_info_block` does that call on the store, by the laws of CallLaws.
 use Rattle.std.proofs.Common.{refl}
 use Rattle.palmheap_c.proofs.CallLaws.{is_done}
 use Rattle.palmheap_c.proofs.database_calls.palmheap_take_info_block.Goals as goal
 
 pub returns-in-Ok-clause-does : goal.returns-in-Ok-clause-does
-returns-in-Ok-clause-does c = is_done (rw (c.as_mut.ensures.value, c.which_of.ensures) at c.in-Ok.ensures.does) refl
+returns-in-Ok-clause-does c =
+    is_done (rw (c.as_mut.ensures.value, c.which_of.ensures) at c.in-Ok.ensures.does) refl

@@ -1,3 +1,4 @@
+-- `checked` refuses an image with the fault of its copy.
 use Rattle.palmheap_c.proofs.images.checked.Goals as goal
 
 pub returns-in-Err-clause-refused : goal.returns-in-Err-clause-refused

@@ -1,7 +1,8 @@
-use Rattle.std.proofs.Common.{◌≡◌, drop, take}
-use Rattle.palmheap_c.specs.LoanNames.{numbers_of_names}
+-- The loop of `put_names` keeps its invariant: the names so far are at the start, and the numbers
+-- after them are unchanged.
+use Rattle.palmheap_c.proofs.Words.{◌≡◌, drop, take, numbers_of_names}
 use Rattle.palmheap_c.proofs.loan_names.put_names.Given as goal
 
--- the names so far are at the start, and the numbers after them are unchanged
 abbrev pub invariant-loop-index : goal.invariant-loop-index
-invariant-loop-index l = (take l.index l.to ≡ numbers_of_names (take l.index l.names)) × (drop l.index l.to ≡ drop l.index l.initial.to)
+invariant-loop-index l = (take l.index l.to ≡ numbers_of_names (take l.index l.names))
+    × (drop l.index l.to ≡ drop l.index l.initial.to)

@@ -1,3 +1,4 @@
+-- `palmheap_MemHandleNew` does that call on the store, by the laws of CallLaws.
 use Rattle.std.proofs.Common.{refl}
 use Rattle.palmheap_c.proofs.CallLaws.{is_done}
 use Rattle.palmheap_c.proofs.memory_calls.palmheap_MemHandleNew.Goals as goal

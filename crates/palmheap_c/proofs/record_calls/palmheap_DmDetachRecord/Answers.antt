@@ -1,3 +1,4 @@
+-- `palmheap_DmDetachRecord` does that call on the store, by the laws of CallLaws.
 use Rattle.std.proofs.Common.{refl}
 use Rattle.palmheap_c.proofs.CallLaws.{is_done}
 use Rattle.palmheap_c.proofs.record_calls.palmheap_DmDetachRecord.Goals as goal

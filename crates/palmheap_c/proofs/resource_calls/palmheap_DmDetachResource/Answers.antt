@@ -1,3 +1,4 @@
+-- `palmheap_DmDetachResource` does that call on the store, by the laws of CallLaws.
 use Rattle.std.proofs.Common.{refl}
 use Rattle.palmheap_c.proofs.CallLaws.{is_done}
 use Rattle.palmheap_c.proofs.resource_calls.palmheap_DmDetachResource.Goals as goal

@@ -1,7 +1,6 @@
-use Rattle.std.proofs.Common.{◌≤◌, ◌∙◌, length, ap, arith}
-use Rattle.std.specs.Prelude.{count_by}
+-- `line_count` returns the number of lines of a text.
+use Rattle.palmheap_c.proofs.Words.{◌≤◌, ◌∙◌, length, ap, arith, count_by, is_line_end}
 use Rattle.std.proofs.lemmas.List.{take_all}
-use Rattle.palmheap_c.specs.Salvaging.{is_line_end}
 use Rattle.palmheap_c.proofs.salvaging.line_count.Goals as goal
 
 pub returns : goal.returns

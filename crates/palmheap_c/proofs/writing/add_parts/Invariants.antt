@@ -1,8 +1,7 @@
-use Rattle.std.proofs.Common.{◌≡◌, ◌++◌, take}
-use Rattle.std.specs.Prelude.{map}
-use Rattle.palmheap_c.specs.Writing.{part_from_c}
+-- The loop of `add_parts` keeps its invariant: the parts of the entries so far are added.
+use Rattle.palmheap_c.proofs.Words.{◌≡◌, ◌++◌, take, map, part_from_c}
 use Rattle.palmheap_c.proofs.writing.add_parts.Given as goal
 
--- the parts of the entries so far are added
 abbrev pub invariant-loop-entry : goal.invariant-loop-entry
-invariant-loop-entry l = l.parts.items ≡ l.initial.parts.items ++ map (part_from_c l.bytes) (take l.entry-index l.entries)
+invariant-loop-entry l = l.parts.items
+    ≡ l.initial.parts.items ++ map (part_from_c l.bytes) (take l.entry-index l.entries)

@@ -1,3 +1,4 @@
+-- `put_file` changes neither buffer if it is refused.
 use Rattle.std.proofs.Common.{inr, refl}
 use Rattle.palmheap_c.proofs.writing.put_file.Goals as goal
 

@@ -1,9 +1,5 @@
-use Rattle.std.proofs.Common.{◌++◌, is_ok, false, arith}
-use Rattle.palm_text.proofs.Parts.{then, stops}
-use Rattle.heap_svg.specs.Drawing.{bottom_text, closing_text}
-use Rattle.heap_svg.specs.Legend.{databases_note, kinds_text}
-use Rattle.heap_svg.proofs.DrawingLaws.{drawn_rows}
-use Rattle.heap_svg.proofs.ChainLaws.{fails}
+-- `put_bottom` writes everything below the rows, from its parts.
+use Rattle.heap_svg.proofs.Laws.{◌++◌, is_ok, false, arith, then, stops, bottom_text, closing_text, databases_note, kinds_text, drawn_rows, fails}
 use Rattle.heap_svg.proofs.drawing.Drawing.put_bottom.Goals as goal
 
 pub put_kinds-requires : goal.put_kinds-requires
@@ -24,9 +20,12 @@ returns-in_err-put_databases_note g c =
     let kinds = kinds_text rows in
     let databases = databases_note image rows in
     let closing = closing_text image rows in
-    fails g.W.Write.contents c.args.out.now c.put_databases_note.new.out _ c.from_residual-in_err-put_databases_note.result (let e = c.from_residual-in_err-put_databases_note.ensures in e.0)
-    (then g.W.Write.contents c.args.out.now c.put_kinds.new.out c.put_databases_note.new.out kinds (databases ++ closing) false c.in_ok-put_kinds.ensures
-    (stops g.W.Write.contents c.put_kinds.new.out c.put_databases_note.new.out databases closing c.in_err-put_databases_note.ensures))
+    fails g.W.Write.contents c.args.out.now c.put_databases_note.new.out _
+    c.from_residual-in_err-put_databases_note.result (let e =
+    c.from_residual-in_err-put_databases_note.ensures in e.0) (then g.W.Write.contents
+    c.args.out.now c.put_kinds.new.out c.put_databases_note.new.out kinds (databases ++ closing)
+    false c.in_ok-put_kinds.ensures (stops g.W.Write.contents c.put_kinds.new.out
+    c.put_databases_note.new.out databases closing c.in_err-put_databases_note.ensures))
 
 pub returns : goal.returns
 unfolding bottom_text
@@ -36,6 +35,8 @@ returns g c =
     let kinds = kinds_text rows in
     let databases = databases_note image rows in
     let closing = closing_text image rows in
-    then g.W.Write.contents c.args.out.now c.put_kinds.new.out c.put_closing.new.out kinds (databases ++ closing) (is_ok c.put_closing.result) c.in_ok-put_kinds.ensures
-    (then g.W.Write.contents c.put_kinds.new.out c.put_databases_note.new.out c.put_closing.new.out databases closing (is_ok c.put_closing.result) c.in_ok-put_databases_note.ensures
-    c.put_closing.ensures)
+    then g.W.Write.contents c.args.out.now c.put_kinds.new.out c.put_closing.new.out kinds
+    (databases ++ closing) (is_ok c.put_closing.result) c.in_ok-put_kinds.ensures
+    (then g.W.Write.contents c.put_kinds.new.out c.put_databases_note.new.out c.put_closing.new.out
+    databases closing
+    (is_ok c.put_closing.result) c.in_ok-put_databases_note.ensures c.put_closing.ensures)

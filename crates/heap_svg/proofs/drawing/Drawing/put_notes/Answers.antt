@@ -1,7 +1,5 @@
-use Rattle.std.proofs.Common.{refl, arith}
-use Rattle.heap_svg.specs.Rooms.{rooms_drawn}
-use Rattle.heap_map.proofs.PieceLaws.{small_pieces}
-use Rattle.heap_svg.proofs.RoomLaws.{small_rooms, largest_packed}
+-- `put_notes` calls what writes the bar with its numbers.
+use Rattle.heap_svg.proofs.Laws.{refl, arith, rooms_drawn, small_pieces, small_rooms, largest_packed}
 use Rattle.heap_svg.proofs.drawing.Drawing.put_notes.Goals as goal
 
 pub put_bar-requires : goal.put_bar-requires

@@ -1,14 +1,5 @@
-use Rattle.std.proofs.Common.{◌≡◌, ◌+◌, ℕ, List, true, is_ok, length, ap, subst, ◌∙◌, arith}
-use Rattle.std.specs.Prelude.{count_by}
-use Rattle.heap_model.specs.Chunk.{is_movable}
-use Rattle.heap_model.specs.Reading.{chunks_of}
-use Rattle.heap_model.specs.Slots.{slots_of}
-use Rattle.heap_model.specs.Store.{listed}
-use Rattle.palm_text.specs.Counted.{Writes}
-use Rattle.palm_text.proofs.Parts.{then}
-use Rattle.heap_svg.specs.Legend.{sizes_at}
-use Rattle.heap_svg.specs.Drawing.{open_text, used_slots_text, height_of, top_text}
-use Rattle.heap_svg.proofs.DrawingLaws.{drawn_rows}
+-- `put_top` writes the first lines, the size of the image and its slots.
+use Rattle.heap_svg.proofs.Laws.{◌≡◌, ◌+◌, ℕ, List, true, is_ok, length, ap, subst, ◌∙◌, arith, count_by, is_movable, chunks_of, slots_of, listed, Writes, then, sizes_at, open_text, used_slots_text, height_of, top_text, drawn_rows}
 use Rattle.heap_svg.proofs.drawing.Drawing.put_top.Goals as goal
 
 pub sizes_top-requires : goal.sizes_top-requires
@@ -19,9 +10,13 @@ sizes_top-requires g c =
     record { rows = omega arith; databases = omega arith }
 
 -- the same numbers make the same line
-same_slots : (size used slots new_size new_used new_slots : ℕ) → size ≡ new_size → used ≡ new_used → slots ≡ new_slots → used_slots_text size used slots ≡ used_slots_text new_size new_used new_slots
+same_slots : (size used slots new_size new_used new_slots : ℕ) → size ≡ new_size → used ≡ new_used
+    → slots ≡ new_slots
+    → used_slots_text size used slots ≡ used_slots_text new_size new_used new_slots
 same_slots size used slots new_size new_used new_slots sizes uses tables =
-    ap (λ (n : ℕ). used_slots_text n used slots) sizes ∙ ap (λ (n : ℕ). used_slots_text new_size n slots) uses ∙ ap (λ (n : ℕ). used_slots_text new_size new_used n) tables
+    ap (λ (n : ℕ). used_slots_text n used slots) sizes
+    ∙ ap (λ (n : ℕ). used_slots_text new_size n slots) uses
+    ∙ ap (λ (n : ℕ). used_slots_text new_size new_used n) tables
 
 pub returns : goal.returns
 unfolding top_text
@@ -29,7 +24,11 @@ returns g c =
     let image = c.args.region.now.bytes in
     let rows = c.args.self.now.rows in
     let summary = c.requires.summary in
-    let height : c.sizes_top.result ≡ sizes_at rows (length (listed image)) = c.sizes_top.ensures.is ∙ ap (sizes_at rows) summary.databases in
-    let open_lines = subst (λ (n : ℕ). Writes g.W.Write.contents c.args.out.now c.put_open.new.out (open_text (n + 70)) true) height c.in_ok-put_open.ensures in
-    let slots = subst (λ (text : List ℕ). Writes g.W.Write.contents c.put_open.new.out c.put_slots.new.out text (is_ok c.put_slots.result)) (same_slots _ _ _ (length image) (count_by is_movable (chunks_of image)) (length (slots_of image)) summary.heap.size summary.heap.movable summary.heap.slots) c.put_slots.ensures in
-    then g.W.Write.contents c.args.out.now c.put_open.new.out c.put_slots.new.out (open_text (height_of rows (length (listed image)))) (used_slots_text (length image) (count_by is_movable (chunks_of image)) (length (slots_of image))) (is_ok c.put_slots.result) open_lines slots
+    let height = c.sizes_top.ensures.is ∙ ap (sizes_at rows) summary.databases in
+    let open_lines = rw height at c.in_ok-put_open.ensures in
+    let slots = rw (same_slots _ _ _ _ _ _ summary.heap.size summary.heap.movable
+    summary.heap.slots) at c.put_slots.ensures in
+    then g.W.Write.contents c.args.out.now c.put_open.new.out c.put_slots.new.out
+    (open_text (height_of rows (length (listed image)))) (used_slots_text (length image)
+    (count_by is_movable (chunks_of image)) (length (slots_of image)))
+    (is_ok c.put_slots.result) open_lines slots

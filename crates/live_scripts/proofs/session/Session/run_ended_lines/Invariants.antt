@@ -1,16 +1,14 @@
-use Rattle.std.proofs.Common.{[], ◌≡◌, ◌≤◌, ◌+◌, ◌-◌, ◌++◌, List, ℕ, length}
-use Rattle.palm_script.specs.Loans.{LoanStays}
-use Rattle.palm_text.specs.Output.{output}
-use Rattle.script_calls.specs.Lines.{setting}
-use Rattle.live_scripts.specs.Sessions.{RunsOn, live_state}
+-- The loop of `run_ended_lines` keeps its invariant: the lines before the rest were run.
+use Rattle.live_scripts.proofs.Words.{[], ◌≡◌, ◌≤◌, ◌+◌, ◌-◌, ◌++◌, List, ℕ, length, LoanStays, output, setting, RunsOn, live_state}
 use Rattle.live_scripts.proofs.session.Session.run_ended_lines.Given as goal
 
--- the lines before the rest were run
 abbrev pub invariant-loop-cut : goal.invariant-loop-cut
 invariant-loop-cut g l = record {
   front : List ℕ;
   parts : l.text ≡ front ++ l.rest;
-  runs : RunsOn (setting (g.A.Allowance.is_short l.memory) l.inputs.files.now) front (live_state l.fn.self l.fn.store) (live_state l.self l.store) (output g.W.Write.contents l.fn.out l.out);
+  runs : RunsOn (setting (g.A.Allowance.is_short l.memory) l.inputs.files.now) front
+      (live_state l.fn.self l.fn.store) (live_state l.self l.store)
+      (output g.W.Write.contents l.fn.out l.out);
   count : l.self.count ≤ l.fn.self.count + length front;
   stays : LoanStays l.fn.store l.store;
 }

@@ -1,25 +1,6 @@
 -- `closed` has a null pointer, and owns nothing. Assumes `Logic`.
-use Rattle.std.proofs.Common.{◌≡◌, [], ◌∷◌, refl, lit<}
-use Rattle.std.proofs.raw_atomic.Walks.{proved_at, leaves}
-use Rattle.std.specs.Prelude.{Option, None}
-use mir.Syntax.{Fn}
-use mir.Val.{Val}
-use base.Logic.{SProp, emp}
-use base.Fml.{ftrue}
-use contract.Monad.{fact, fact_i}
-use contract.Running.{tables}
-use types.Kit.{‵, raw, ◌⊛◌, ◌$◌, ◌∵◌, !, qed, by, move, drop, use0, split}
-use types.Part.{agg}
-use types.Run.{lit, no_more, and_then, returns, enter}
-use types.ByLocal.{alloc_all, pass_all, free_all, look_at, sets}
-use denote.RattleType.{owns}
-use denote.RawPtr.{null_ptr}
-use denote.Signature.{types_at}
-use denote.Steps.{nothing}
-use denote.Triple.Entry.{alive}
-use denote.Triple.Walked.{Stays, walk_of}
-use Rattle.palmheap_c.specs.Opened.{Opened}
-use Rattle.palmheap_c.proofs.Values.{word, word_in}
+use Rattle.palmheap_c.proofs.Laws.{◌≡◌, [], ◌∷◌, refl, lit<, proved_at, leaves, Option, None, Fn, Val, SProp, emp, ftrue, fact, fact_i, tables, ‵, raw, ◌⊛◌, ◌$◌, ◌∵◌, !, qed, by, move, use0, split, agg, lit, no_more, and_then, returns, enter, alloc_all, pass_all, free_all, look_at, sets, owns, null_ptr, types_at, nothing, alive, Stays, walk_of, Opened, word, word_in}
+use types.Kit.{drop}
 use Rattle.palmheap_c.specs.contracts.kept.Slot as slot
 use Rattle.palmheap_c.specs.contracts.kept.Slot.closed.{ended, clauses}
 use Rattle.palmheap_c.specs.contracts.kept.Slot.closed.Key.{name as #self}
@@ -38,11 +19,12 @@ closed_spec 𝓤 𝓛 𝓜 𝓡 wired =
     let Post : Val → SProp 𝓤 = (walk_of 𝓛 ended stays c).post z in
     let none : Option Opened = None in
     let made : slot.the_row.Denot = record { at = null_ptr; store = none } in
-    qed 𝓛 ((raw (alive 𝓛 ended.signature z.0.0 z.0.1) ⊛ ‵ (owns (types_at ended.signature.params z.0.0) z.0.3 z.0.4)) ∷ ‵ ftrue ∷ []) ∵ move ! (1 ∷ []) $ drop ! $ split ! $ move ! (1 ∷ []) $ drop ! $
-    enter ! C Λ fn [] Post $
-    alloc_all ! (λ l. pass_all ! refl tt $
-    sets ! (agg ! (and_then ! (lit ! tt) (no_more !))) refl (tt, (record { fits = lit< tt }, tt)) $
-    returns ! (look_at ! 0 refl) $ free_all ! refl $
-    nothing ! $ word_in ! null_ptr none $
-    use0 𝓛 (raw (fact 𝓤 ((none ≡ none) × (null_ptr ≡ null_ptr)))) (fact_i 𝓤 ((none ≡ none) × (null_ptr ≡ null_ptr)) (emp 𝓤) (refl, refl)) $
-    nothing ! $ move ! (3 ∷ 0 ∷ 2 ∷ 1 ∷ []) $ by ! (leaves 𝓛 ended stays c z (word null_ptr) made tt tt)))
+    qed 𝓛 ((raw (alive 𝓛 ended.signature z.0.0 z.0.1) ⊛ ‵
+    (owns (types_at ended.signature.params z.0.0) z.0.3 z.0.4)) ∷ ‵ ftrue ∷ []) ∵ move ! (1 ∷ [])
+    $ drop ! $ split ! $ move ! (1 ∷ []) $ drop ! $ enter ! C Λ fn [] Post
+    $ alloc_all ! (λ l. pass_all ! refl tt
+    $ sets ! (agg ! (and_then ! (lit ! tt) (no_more !))) refl (tt, (record { fits = lit< tt }, tt))
+    $ returns ! (look_at ! 0 refl) $ free_all ! refl $ nothing ! $ word_in ! null_ptr none
+    $ use0 𝓛 (raw (fact 𝓤 ((none ≡ none) × (null_ptr ≡ null_ptr))))
+    (fact_i 𝓤 ((none ≡ none) × (null_ptr ≡ null_ptr)) (emp 𝓤) (refl, refl)) $ nothing !
+    $ move ! (3 ∷ 0 ∷ 2 ∷ 1 ∷ []) $ by ! (leaves 𝓛 ended stays c z (word null_ptr) made tt tt)))

@@ -5,8 +5,10 @@ use Rattle.pdb_files.proofs.importing.plan.plan_entry.Goals as goal
 
 pub returns-in-Record : goal.returns-in-Record
 returns-in-Record c =
-    record_planned c.args.file.now c.args.ids.now c.args.index c.in-Record.record.attributes.0 c.in-Record.record.id c.in-Record.record.slot _ c.idle_attributes-attributes.result.0 c.args.size c.know_file.ensures.good c.requires.inside c.requires.ids
-    c.in-Record.ensures.is c.in-Record.ensures.kind c.requires.size c.idle_attributes-attributes.ensures refl
+    record_planned c.args.file.now c.args.ids.now c.args.index c.in-Record.record.attributes.0
+    c.in-Record.record.id c.in-Record.record.slot _ c.idle_attributes-attributes.result.0
+    c.args.size c.know_file.ensures.good c.requires.inside c.requires.ids c.in-Record.ensures.is
+    c.in-Record.ensures.kind c.requires.size c.idle_attributes-attributes.ensures refl
 
 pub returns-in-Resource : goal.returns-in-Resource
 returns-in-Resource c =
