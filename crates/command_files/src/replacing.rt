@@ -1,7 +1,7 @@
 //! Output files that don't replace a file of the other kind: an image replaces no PDB or PRC file,
 //! such a file replaces no image, and a picture replaces neither.
 
-ghost use Rattle.std.specs.Prelude.{◌≡◌, ◌⊎◌, Err, IfErr, IsTrue, false, length};
+ghost use Rattle.std.specs.Prelude.{◌||◌, ◌≡◌, ◌⊎◌, Err, IfErr, IsTrue, false, length};
 ghost use Rattle.std.specs.Io.KnownBytes.{Consumes};
 ghost use Rattle.command_files.specs.Replacing.{head_size, looks_like_other};
 
