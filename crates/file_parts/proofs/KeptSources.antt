@@ -1,5 +1,5 @@
 -- A file that keeps some things, as it is laid out and written.
-use Rattle.file_parts.proofs.AllWords.{◌≡◌, ℕ, ◌+◌, ◌-◌, ◌<◌, ◌≤◌, ◌++◌, Bool, true, false, cond, Option, None, List, [], length, get_or, map, drop, inl, inr, refl, sym, ap, ◌∙◌, arith, ◌==◌, ◌⊎◌, if◌then◌else◌, IsFalse, IsTrue, is_some, range_with_len, IsPermutation, IsNonDecreasing, and_from, and_parts, get_or-map, length-drop, length-map, length-take, fill_by_all, get_or-map-range_with_len, length-map-range_with_len, sum_by-IsPermutation, AreBytes, u24_at, times, seed_in, Database, DatabaseHeader, Entry, a_record, a_resource, data_in, database_in, entry_at, entry_count_in, entry_offset, entry_with, has_resources, header_in, name_field, name_in, resources_in, unique_ids, blocks_in, entries_end, idle, idle_attributes, idle_entry, contained-times, times-distinct, times-some, filler_in, first_start, written_filler, database_read, entry_read, entry_read_at, header_read, not_truncated, blocks_read_are, entry_read_is, length-entries_read, header_stays, most_bytes, Known, ExactFile, IsExactly, exact_block, exact_bytes, exact_database, exact_entry, exact_in, exact_size, exact_start, after_name_of, is_other, order_of, AreExactPlaces, HasValuesAt, IsOrdered, IsPlaceFault, KeepsParts, kept_exact, PlaceFault, Keep}
+use Rattle.file_parts.proofs.AllWords.{◌≡◌, ℕ, ◌+◌, ◌-◌, ◌<◌, ◌≤◌, ◌++◌, Bool, true, false, cond, Option, None, List, [], length, get_or, map, drop, inl, inr, refl, sym, ap, subst, ◌∙◌, arith, ◌==◌, ◌⊎◌, if◌then◌else◌, IsFalse, IsTrue, is_some, range_with_len, IsPermutation, IsNonDecreasing, and_from, and_parts, get_or-map, length-drop, length-map, length-take, fill_by_all, get_or-map-range_with_len, length-map-range_with_len, sum_by-IsPermutation, AreBytes, u24_at, times, seed_in, Database, DatabaseHeader, Entry, a_record, a_resource, data_in, database_in, entry_at, entry_count_in, entry_offset, entry_with, has_resources, header_in, name_field, name_in, resources_in, unique_ids, blocks_in, entries_end, idle, idle_attributes, idle_entry, contained-times, times-distinct, times-some, filler_in, first_start, written_filler, database_read, entry_read, entry_read_at, header_read, not_truncated, blocks_read_are, entry_read_is, length-entries_read, header_stays, most_bytes, Known, ExactFile, IsExactly, exact_block, exact_bytes, exact_database, exact_entry, exact_in, exact_size, exact_start, after_name_of, is_other, order_of, AreExactPlaces, HasValuesAt, IsOrdered, IsPlaceFault, KeepsParts, kept_exact, PlaceFault, Keep}
 use Rattle.canonical_file.specs.Written.{ids_of, seed_of}
 use Rattle.canonical_file.proofs.OwnIds.{own_id}
 use Rattle.file_parts.specs.Kept.{IsKeepFault, IsKeeping, exact_keeping}
@@ -288,19 +288,21 @@ module _ (keep : Keep) (keeping : Keeping) (places : Places) (file order given :
     (known : Known file (database_read file given last)) (is : IsExactly file (exact_in file order))
     (same : exact_keeping keeping ≡ kept_exact keep (exact_in file order)
     (database_read file given last)) (are : AreExactPlaces (exact_keeping keeping) places) where
-  small : exact_size (exact_keeping keeping) ≤ most_bytes
+  small : exact_size (kept_exact keep (exact_in file order) (database_read file given last))
+      ≤ most_bytes
   small =
       let size = are.size in
       let fits_in = are.fits in
-      omega (arith, size, fits_in)
+      subst (λ (x : ExactFile). exact_size x ≤ most_bytes) same (omega (arith, size, fits_in))
 
   pub kept_from : KeepsParts keep file (exact_bytes (exact_keeping keeping))
-  kept_from =
-      rw same (keeps keep _ _ _ known is (rw same at small))
+  kept_from = rw same (keeps keep _ _ _ known is small)
 
   pub kept_size : places.size ≡ length (exact_bytes (exact_keeping keeping))
   kept_size =
-      are.size ∙ rw same (kept_long keep _ _ _ known is (rw same at small))
+      are.size
+      ∙ subst (λ (x : ExactFile). exact_size x ≡ length (exact_bytes x)) (sym same)
+      (kept_long keep _ _ _ known is small)
 
 pub keep_why : (keep : Keep) (keeping : Keeping) (file order given : List ℕ) (last : ℕ)
     (fault : PlaceFault) → Known file (database_read file given last)
@@ -308,5 +310,6 @@ pub keep_why : (keep : Keep) (keeping : Keeping) (file order given : List ℕ) (
     → exact_keeping keeping ≡ kept_exact keep (exact_in file order) (database_read file given last)
     → IsPlaceFault (exact_size (exact_keeping keeping)) fault → IsKeepFault keep file fault
 keep_why keep keeping file order given last TooLarge known is same large =
-    (exact_in file order, is, (database_read file given last, known.reads, rw same at large))
+    let over = subst (λ (x : ExactFile). most_bytes < exact_size x) same large in
+    (exact_in file order, is, (database_read file given last, known.reads, over))
 keep_why keep keeping file order given last OutOfMemory known is same large = tt
