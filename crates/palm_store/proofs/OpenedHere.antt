@@ -1,5 +1,5 @@
 -- What a call on an open database of a store knows in the heap, which is the store's value.
-use Rattle.palm_store.proofs.Words.{◌≡◌, ℕ, ◌<◌, ◌≤◌, ◌^◌, List, length, ◌∙◌, Memory, Store, Accepted, store_of, database_here, LeavesStore, KeepsLoan, OnlyWrites, OnlySlides, writes_then, slides_then, none_slid, OpenDatabase, IsOpened, IsStore, KnownIds, IsEntryData, data_owner, owner_under, entries_in}
+use Rattle.palm_store.proofs.Words.{◌≡◌, ℕ, ◌<◌, ◌≤◌, ◌^◌, List, length, ◌∙◌, Memory, Store, Accepted, store_of, database_here, LeavesStore, KeepsLoan, OnlyWrites, OnlySlides, OpenDatabase, IsOpened, IsStore, KnownIds, IsEntryData, data_owner, owner_under, entries_in}
 use Rattle.palm_store.proofs.EntriesHere.{count_fits, index_below, index_most}
 use Rattle.palm_store.proofs.EntryChanges.{named_owner}
 use Rattle.palm_store.proofs.KnownIds.{stand_still}

@@ -1,5 +1,5 @@
 -- The data is made and then the slot listed; or there was no room for that, and the data is freed.
-use Rattle.palm_store.proofs.Laws.{length, on_err, slides_then, none_slid, own_chunks, taken_back, keeps_makes, same_bytes, no_listing_then}
+use Rattle.palm_store.proofs.Laws.{on_err, slides_then, none_slid, own_chunks, taken_back, keeps_makes, same_bytes, no_listing_then}
 use Rattle.palm_store.proofs.WholeRooms.{runs_more}
 use Rattle.palm_store.proofs.databases.completing.make_data_and_list.Goals as goal
 

@@ -1,5 +1,5 @@
 -- A header's chunk is made, and then listed; or freed again, and then all is held that was held.
-use Rattle.palm_store.proofs.Laws.{refl, length, rules, keeps_then, made_movable, listed_new, made_directory, few_bytes, given_back, no_listing, fresh_apart, made_here, owned_here}
+use Rattle.palm_store.proofs.Laws.{refl, rules, keeps_then, made_movable, listed_new, made_directory, few_bytes, given_back, no_listing, fresh_apart, made_here, owned_here}
 use Rattle.palm_store.proofs.databases.creating.list_new.Goals as goal
 
 pub list_last-requires-clause-few : goal.list_last-requires-clause-few
