@@ -1,6 +1,6 @@
 -- A database gets an info block, which was a caller's chunk, or has one no longer, which a caller
 -- gets.
-use Rattle.palm_store.proofs.Words.{◌≡◌, ◌≢◌, ℕ, ◌+◌, ◌<◌, false, List, map, refl, sym, ap, subst, ◌∙◌, arith, inl, inr, ◌⊎◌, data_owner, u32_at, directory_of, held, same, times, reowned, callers_map, Database, data_in, database_in, spelled, DatabaseFits, owner_under, IsInfoBlock, databases, Accepted, store_of, with_changed, IsSound, Leaves, Respells, rewritten, database_here, info_block, with_info_block, info_block_of, info_block_under, info_block_set, info_block_taken, raised, LeavesStore, Db, Which, same-no, accepted_sound, number_database, number_here, IsMovable, HasNumber, with_block}
+use Rattle.palm_store.proofs.Words.{◌≡◌, ◌≢◌, ℕ, ◌+◌, ◌<◌, false, List, refl, sym, ap, subst, ◌∙◌, arith, inl, inr, ◌⊎◌, data_owner, u32_at, directory_of, held, same, times, reowned, callers_map, Database, data_in, database_in, spelled, DatabaseFits, owner_under, IsInfoBlock, databases, Accepted, store_of, with_changed, IsSound, Leaves, Respells, rewritten, database_here, info_block, with_info_block, info_block_of, info_block_under, info_block_set, info_block_taken, raised, LeavesStore, Db, Which, same-no, accepted_sound, number_database, number_here, IsMovable, HasNumber, with_block}
 use Rattle.heap_model.specs.declared.names.Which.TheVariants.{App, Sort}
 use Rattle.laws_store.proofs.NameCounts.{times-data}
 use Rattle.palm_store.proofs.DataChunks.{for_data, data_movable, data_no_directory}

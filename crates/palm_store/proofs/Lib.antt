@@ -27,6 +27,7 @@ pub mod GivenChunks
 pub mod InfoBlocks
 pub mod BlockCalls
 pub mod KnownIds
+pub mod OpenedHere
 pub mod AttributeChanges
 pub mod FilledData
 pub mod OpenedEntries

@@ -2,7 +2,6 @@
 use Rattle.palm_store.proofs.Words.{◌≡◌, Memory, MemoryCall, Does, Accepted, databases, store_of, Call, DoesInStore, IsStore, KnownIds, has_databases}
 use Rattle.heap_model.specs.declared.call.Call.TheVariants as calls
 use Rattle.heap_model.specs.declared.call.Reply.{Reply}
-use Rattle.heap_model.specs.declared.call.Reply.TheVariants as replies
 use Rattle.laws_store.proofs.LiftedCalls.{memory_call_steps}
 use Rattle.palm_store.proofs.KnownIds.{stand_still}
 use Rattle.laws_store.proofs.Counts.{accepted_with, databases_are}

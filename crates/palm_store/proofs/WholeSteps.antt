@@ -1,6 +1,6 @@
 -- A whole database that was made is a step of the store: it comes after the others, and its data to
 -- the map.
-use Rattle.palm_store.proofs.Words.{◌≡◌, ◌≢◌, ℕ, ◌+◌, ◌<◌, Bool, List, [], ◌∷◌, ◌++◌, length, map, drop, Some, None, refl, sym, ap, subst, ◌∙◌, arith, inl, inr, All-nil, All-cons, All-head, All-tail, All, AllZip, filter_map, ChunkMap, held, same, times, Distinct, callers_map, data_in, entry_data, spelled, has_resources, DatabaseFits, entry_offset, StoredDatabase, listed, databases, most_databases, unique_id, HasUniqueIds, Accepted, store_of, NamesData, IsTaken, DbInfo, Appends, has_databases, has_store, BlockSizes, WholeEntry, size_of_data, data_sizes, CanCome, id_asked, CanBeWhole, entries_named, whole_database, whole_size, IsGained, MakesWhole, ListsWhole}
+use Rattle.palm_store.proofs.Words.{◌≡◌, ◌≢◌, ℕ, ◌+◌, ◌<◌, Bool, List, [], ◌∷◌, ◌++◌, length, map, drop, Some, None, refl, ap, ◌∙◌, arith, inl, inr, All-nil, All-cons, All-head, All-tail, All, AllZip, filter_map, ChunkMap, held, times, callers_map, data_in, entry_data, spelled, has_resources, DatabaseFits, entry_offset, StoredDatabase, databases, most_databases, unique_id, HasUniqueIds, Accepted, store_of, NamesData, IsTaken, DbInfo, Appends, has_databases, has_store, BlockSizes, WholeEntry, size_of_data, data_sizes, CanCome, id_asked, CanBeWhole, entries_named, whole_database, whole_size, IsGained, MakesWhole, ListsWhole}
 use Rattle.laws_store.proofs.Listed as listed
 use Rattle.palm_store.specs.WholeDatabases.{entry_named}
 use Rattle.palm_store.specs.declared.entries.infos.EntryInfo.TheVariants as infos

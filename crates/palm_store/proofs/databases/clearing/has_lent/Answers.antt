@@ -1,5 +1,5 @@
 -- The slots of a database are asked in turn. If nothing is lent, none is asked.
-use Rattle.palm_store.proofs.Laws.{◌≡◌, refl, sym, ap, subst, ◌∙◌, arith, ℕ, List, length, false, below_more, both_ways, database_in, data_in, IsLent, named_under, none_lent, named_at, any_at, none_of}
+use Rattle.palm_store.proofs.Laws.{refl, sym, ap, subst, ◌∙◌, arith, ℕ, List, length, false, below_more, both_ways, database_in, data_in, IsLent, named_under, none_lent, named_at, any_at, none_of}
 use Rattle.palm_store.proofs.NamedChunks.{slot_movable}
 use Rattle.palm_store.proofs.databases.clearing.has_lent.Goals as goal
 

@@ -3,4 +3,4 @@ use Rattle.std.specs.Prelude.{Option}
 use Rattle.palm_store.proofs.databases.clearing.is_locked.Goals as goal
 
 pub returns-then-slot-eq0 : goal.returns-then-slot-eq0
-returns-then-slot-eq0 c = (λ locked. absurd (both_ways false refl locked), λ is. absurd (subst (λ (o : Option LiveChunk). Of o IsLocked) (ap (held c.args.heap.now.bytes) c.if-slot-eq0.true ∙ held-zero c.args.heap.now.bytes c.requires.heap) is))
+returns-then-slot-eq0 c = (λ locked. absurd (both_ways false refl locked), λ is. absurd (subst (λ (o : Option LiveChunk). Of o IsLocked) (ap (held c.args.heap.now.bytes) c.if-slot-eq0.true ∙ held-zero _ c.requires.heap) is))

@@ -2,13 +2,13 @@ use Rattle.palm_store.proofs.Laws.{sym, ◌∙◌, ◌-◌, ◌≤◌, ◌<◌, 
 use Rattle.palm_store.proofs.databases.clearing.slot_at.Goals as goal
 
 pub app_info-requires : goal.app_info-requires
-app_info-requires c = header_inside c.args.body.now c.requires.spelled
+app_info-requires c = header_inside _ c.requires.spelled
 
 pub sort_info-requires : goal.sort_info-requires
-sort_info-requires c = header_inside c.args.body.now c.requires.spelled
+sort_info-requires c = header_inside _ c.requires.spelled
 
 pub has_resources-requires : goal.has_resources-requires
-has_resources-requires c = header_inside c.args.body.now c.requires.spelled
+has_resources-requires c = header_inside _ c.requires.spelled
 
 pub entry_slot-requires-clause-inside : goal.entry_slot-requires-clause-inside
 entry_slot-requires-clause-inside c =
@@ -16,13 +16,13 @@ entry_slot-requires-clause-inside c =
     let long = length-named c.args.body.now in
     let inside = c.requires.inside in
     let below : c.args.index - 2 < entry_count_in c.args.body.now = omega (arith, long, inside, past) in
-    rw c.has_resources.ensures (entry_inside c.args.body.now (c.args.index - 2) c.requires.spelled below)
+    rw c.has_resources.ensures (entry_inside _ (c.args.index - 2) c.requires.spelled below)
 
 pub returns-in-0 : goal.returns-in-0
-returns-in-0 c = c.app_info.ensures ∙ sym (first_named c.args.body.now c.args.index c.in-0.is)
+returns-in-0 c = c.app_info.ensures ∙ sym (first_named _ _ c.in-0.is)
 
 pub returns-in-1 : goal.returns-in-1
-returns-in-1 c = c.sort_info.ensures ∙ sym (second_named c.args.body.now c.args.index c.in-1.is)
+returns-in-1 c = c.sort_info.ensures ∙ sym (second_named _ _ c.in-1.is)
 
 pub returns-in_default : goal.returns-in_default
-returns-in_default c = (let past : 2 ≤ c.args.index = omega arith in c.entry_slot.ensures ∙ sym (later_named c.args.body.now c.args.index past c.requires.inside))
+returns-in_default c = (let past : 2 ≤ c.args.index = omega arith in c.entry_slot.ensures ∙ sym (later_named _ _ past c.requires.inside))

@@ -3,7 +3,7 @@ use Rattle.palm_store.proofs.NamedChunks.{length-named, header_inside}
 use Rattle.palm_store.proofs.databases.clearing.slot_count.Goals as goal
 
 pub entry_count-requires : goal.entry_count-requires
-entry_count-requires c = header_inside c.args.body.now c.requires
+entry_count-requires c = header_inside _ c.requires
 
 pub returns : goal.returns
-returns c = ap (λ (count : ℕ). 2 + count) c.entry_count.ensures ∙ sym (length-named c.args.body.now)
+returns c = ap (λ (count : ℕ). 2 + count) c.entry_count.ensures ∙ sym (length-named _)

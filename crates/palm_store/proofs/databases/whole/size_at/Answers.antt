@@ -7,4 +7,4 @@ pub returns-in_default : goal.returns-in_default
 returns-in_default c =
     let inside = c.requires.inside in
     let past : 2 ≤ c.args.index = (let d = c.in_default in omega arith) in
-    size_behind c.args.blocks c.args.entries.now c.args.index _ past (omega (arith, inside))
+    size_behind _ _ _ _ past (omega (arith, inside))

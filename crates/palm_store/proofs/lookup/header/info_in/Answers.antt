@@ -3,4 +3,4 @@ use Rattle.palm_store.proofs.Lookups.{info_read}
 use Rattle.palm_store.proofs.lookup.header.info_in.Goals as goal
 
 pub returns : goal.returns
-returns c = c.info.ensures ∙ info_read _ c.read.result c.read.ensures
+returns c = c.info.ensures ∙ info_read _ _ c.read.ensures

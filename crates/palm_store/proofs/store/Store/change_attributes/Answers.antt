@@ -1,39 +1,33 @@
 -- Only the attributes of the records change.
-use Rattle.palm_store.proofs.Laws.{◌≡◌, false, store_of, resources_under, IsOpened, opened_here, respelled_none, attributes_free, open_with_attributes}
+use Rattle.palm_store.proofs.Laws.{store_of, opened_here, respelled_none, attributes_free, open_with_attributes}
 use Rattle.palm_store.proofs.AttributeChanges.{attributes_steps, kind_of_records}
+use Rattle.palm_store.proofs.OpenedHere.{opened_in}
 use Rattle.palm_store.proofs.store.Store.change_attributes.Goals as goal
 
-pub change_attributes-requires-clause-opened : goal.change_attributes-requires-clause-opened
-change_attributes-requires-clause-opened g c = opened_here c.self.inside.heap.bytes c.args.opened c.self.invariant.accepted (rw c.self.view_is c.requires.opened)
+pub change_attributes-requires : goal.change_attributes-requires
+change_attributes-requires g c =
+    let opened = opened_in c.self.view_is c.requires.opened in record {
+      opened = opened_here _ _ c.self.invariant.accepted opened;
+      records = kind_of_records _ _ opened.number (rw c.self.view_is c.requires.records);
+    }
 
-pub change_attributes-requires-clause-records : goal.change_attributes-requires-clause-records
-change_attributes-requires-clause-records g c =
-    let opened : IsOpened c.self.inside.heap.bytes c.args.opened = rw c.self.view_is c.requires.opened in
-    let records : resources_under (store_of c.self.inside.heap.bytes) c.args.opened.db ≡ false = rw c.self.view_is c.requires.records in
-    kind_of_records c.self.inside.heap.bytes c.args.opened.db opened.number records
+pub returns : goal.returns
+returns g c =
+    let a = c.self.invariant.accepted in
+    let opened = opened_in c.self.view_is c.requires.opened in
+    let made = g.C.ByteChange.made c.args.change in
+    let e = c.change_attributes.ensures in
+    let left = attributes_steps _ _ _ made c.requires.change a opened.number e.changed in record {
+      changed = rw (← c.self.view_is) left;
+      opened = open_with_attributes _ _ _ made a opened e.stands left.same;
+      none_made = rw (← c.self.view_is) (respelled_none _ _ _ _ a opened.number e.changed);
+      kept = rw (← c.self.view_is) e.kept;
+    }
 
 pub invariant_of-self : goal.invariant_of-self
 invariant_of-self g c =
-    let opened : IsOpened c.self.inside.heap.bytes c.args.opened = rw c.self.view_is c.requires.opened in
-    let left = attributes_steps c.self.inside.heap.bytes c.change_attributes.new.heap.bytes c.args.opened.db (g.C.ByteChange.made c.args.change) c.requires.change c.self.invariant.accepted opened.number c.change_attributes.ensures.changed in
-    record {
+    let left = (returns g c).changed in record {
       accepted = left.accepted;
-      free = attributes_free (store_of c.self.inside.heap.bytes) (store_of c.change_attributes.new.heap.bytes) c.args.opened.db.0 (g.C.ByteChange.made c.args.change) c.self.inside.known left.same.databases c.self.invariant.free;
+      free = attributes_free (store_of c.args.self.now.bytes) (store_of c.change_attributes.new.heap.bytes)
+          _ (g.C.ByteChange.made c.args.change) _ left.same.databases (rw (← c.self.view_is) c.self.invariant.free);
     }
-
-pub returns-clause-changed : goal.returns-clause-changed
-returns-clause-changed g c =
-    let opened : IsOpened c.self.inside.heap.bytes c.args.opened = rw c.self.view_is c.requires.opened in
-    rw (← c.self.view_is) (attributes_steps c.self.inside.heap.bytes c.change_attributes.new.heap.bytes c.args.opened.db (g.C.ByteChange.made c.args.change) c.requires.change c.self.invariant.accepted opened.number c.change_attributes.ensures.changed)
-
-pub returns-clause-none_made : goal.returns-clause-none_made
-returns-clause-none_made g c =
-    let opened : IsOpened c.self.inside.heap.bytes c.args.opened = rw c.self.view_is c.requires.opened in
-    rw (← c.self.view_is) (respelled_none c.self.inside.heap.bytes c.change_attributes.new.heap.bytes c.args.opened.db.0 _ c.self.invariant.accepted opened.number c.change_attributes.ensures.changed)
-
-pub returns-clause-kept : goal.returns-clause-kept
-returns-clause-kept g c = rw (← c.self.view_is) c.change_attributes.ensures.kept
-
-pub returns-clause-opened : goal.returns-clause-opened
-returns-clause-opened g c =
-    open_with_attributes c.args.self.now.bytes c.change_attributes.new.heap.bytes c.args.opened (g.C.ByteChange.made c.args.change) (rw (← c.self.view_is) c.self.invariant.accepted) c.requires.opened c.change_attributes.ensures.stands (returns-clause-changed g c).same

@@ -1,25 +1,28 @@
 -- The database counts the call, and nothing else changes.
-use Rattle.palm_store.proofs.Laws.{IsOpened, store_of, opened_here, counting_steps, respelled_none, raised_free}
+use Rattle.palm_store.proofs.Laws.{store_of, opened_here, counting_steps, respelled_none, raised_free}
+use Rattle.palm_store.proofs.OpenedHere.{opened_in}
 use Rattle.palm_store.proofs.store.Store.count_change.Goals as goal
 
 pub count_change-requires : goal.count_change-requires
-count_change-requires c = record { opened = opened_here c.self.inside.heap.bytes c.args.opened c.self.invariant.accepted (rw c.self.view_is c.requires.opened) }
+count_change-requires c =
+    let opened = opened_in c.self.view_is c.requires.opened in
+    record { opened = opened_here _ _ c.self.invariant.accepted opened }
+
+pub returns : goal.returns
+returns c =
+    let a = c.self.invariant.accepted in
+    let has = (opened_in c.self.view_is c.requires.opened).number in
+    let e = c.count_change.ensures in record {
+      counted = rw (← c.self.view_is) (counting_steps _ _ _ a has e.counted);
+      none_made = rw (← c.self.view_is) (respelled_none _ _ _ _ a has e.counted);
+      unmoved = rw (← c.self.view_is) e.unmoved;
+      kept = rw (← c.self.view_is) e.kept;
+    }
 
 pub invariant_of-self : goal.invariant_of-self
 invariant_of-self c =
-    let opened : IsOpened c.self.inside.heap.bytes c.args.opened = rw c.self.view_is c.requires.opened in
-    let left = counting_steps c.self.inside.heap.bytes c.count_change.new.heap.bytes c.args.opened.db c.self.invariant.accepted opened.number c.count_change.ensures.counted in
-    record { accepted = left.accepted; free = raised_free (store_of c.self.inside.heap.bytes) (store_of c.count_change.new.heap.bytes) c.args.opened.db.0 c.self.inside.known left.same.databases c.self.invariant.free }
-
-pub returns-clause-counted : goal.returns-clause-counted
-returns-clause-counted c =
-    let opened : IsOpened c.self.inside.heap.bytes c.args.opened = rw c.self.view_is c.requires.opened in
-    rw (← c.self.view_is) (counting_steps c.self.inside.heap.bytes c.count_change.new.heap.bytes c.args.opened.db c.self.invariant.accepted opened.number c.count_change.ensures.counted)
-
-pub returns-clause-none_made : goal.returns-clause-none_made
-returns-clause-none_made c =
-    let opened : IsOpened c.self.inside.heap.bytes c.args.opened = rw c.self.view_is c.requires.opened in
-    rw (← c.self.view_is) (respelled_none c.self.inside.heap.bytes c.count_change.new.heap.bytes c.args.opened.db.0 _ c.self.invariant.accepted opened.number c.count_change.ensures.counted)
-
-pub returns-clause-kept : goal.returns-clause-kept
-returns-clause-kept c = rw (← c.self.view_is) c.count_change.ensures.kept
+    let left = (returns c).counted in record {
+      accepted = left.accepted;
+      free = raised_free (store_of c.args.self.now.bytes) (store_of c.count_change.new.heap.bytes) _ _
+          left.same.databases (rw (← c.self.view_is) c.self.invariant.free);
+    }

@@ -10,4 +10,4 @@ if_some P Q R (Err error) p r then = tt
 
 pub returns-clause-is : goal.returns-clause-is
 returns-clause-is c =
-    rw (c.ok.ensures.value, ← c.self.view_is) (if_some _ _ _ c.find_header.result c.find_header.ensures.is c.find_header.ensures.known (λ header known is. read_here c.self.inside.heap.bytes header.now c.args.db _ known is refl))
+    rw (c.ok.ensures.value, ← c.self.view_is) (if_some _ _ _ c.find_header.result c.find_header.ensures.is c.find_header.ensures.known (λ header known is. read_here _ header.now _ _ known is refl))

@@ -3,4 +3,6 @@ use Rattle.palm_store.proofs.store.Store.database_info.Goals as goal
 
 pub returns : goal.returns
 returns c =
-    rw (← c.self.view_is) (told c.self.inside.heap c.args.db c.info_in.result c.self.invariant.accepted c.in_ok-find_header.ensures.known (c.info_in.ensures ∙ ap (λ (bytes : List ℕ). info_of (database_in bytes)) c.in_ok-find_header.ensures.is))
+    let header = c.in_ok-find_header.ensures in
+    rw (← c.self.view_is) (told _ _ _ c.self.invariant.accepted header.known
+    (c.info_in.ensures ∙ ap (λ (bytes : List ℕ). info_of (database_in bytes)) header.is))

@@ -10,4 +10,4 @@ returns c =
     let db = c.args.opened.db in
     of_entry (entry_under (store_of image) db c.args.index) (entry_of c.read_entry.result)
     (Tells c.told.result)
-    (entry_here image db c.args.index opened.number ∙ c.read_entry.ensures.is) c.told.ensures)
+    (entry_here _ db _ opened.number ∙ c.read_entry.ensures.is) c.told.ensures)

@@ -1,38 +1,33 @@
 -- The data has the given bytes, and nothing else changes.
-use Rattle.palm_store.proofs.Laws.{length, arith, store_of, HasDataOf, data_held, filled_movable, data_long, filled_steps, stand_still, loose_here}
+use Rattle.palm_store.proofs.Laws.{length, arith, refl, HasDataOf, data_held, filled_movable, data_long, filled_steps, loose_here}
+use Rattle.palm_store.proofs.OpenedHere.{still_store, wrote}
 use Rattle.palm_store.proofs.store.Store.fill_data.Goals as goal
 
 pub sys_find-chunk-requires : goal.sys_find-chunk-requires
 sys_find-chunk-requires c =
-    let has : HasDataOf c.self.inside.heap.bytes c.args.name.0 (length c.args.bytes.now) = rw c.self.view_is c.requires in
-    filled_movable c.self.inside.heap.bytes c.args.name.0 (length c.args.bytes.now) c.self.invariant.accepted.heap has
+    filled_movable _ _ (length c.args.bytes.now) c.self.invariant.accepted.heap (rw c.self.view_is c.requires)
 
-pub sys_write-requires-clause-within : goal.sys_write-requires-clause-within
-sys_write-requires-clause-within c =
-    let has : HasDataOf c.self.inside.heap.bytes c.args.name.0 (length c.args.bytes.now) = rw c.self.view_is c.requires in
-    let long = data_long c.self.inside.heap.bytes c.args.name.0 (length c.args.bytes.now) has in
-    omega (arith, long)
+pub sys_write-requires : goal.sys_write-requires
+sys_write-requires c =
+    let has : HasDataOf c.self.inside.heap.bytes c.args.name.0 (length c.args.bytes.now) =
+    rw c.self.view_is c.requires in
+    let d = data_held _ _ _ has in
+    let long = data_long _ _ _ has in
+    let found = c.sys_find-chunk.ensures in record {
+      stands = found.stands;
+      here = loose_here _ _ _ _ c.self.invariant.accepted.heap found.stands d.there d.loose found.unlocked;
+      within = omega (arith, long);
+    }
+
+pub returns : goal.returns
+returns c =
+    let a = c.self.invariant.accepted in
+    let e = c.sys_write.ensures in record {
+      filled = rw (← c.self.view_is) (filled_steps _ _ _ _ a (rw c.self.view_is c.requires) e.leaves);
+      unmoved = rw (← c.self.view_is) e.unmoved;
+      kept = rw (← c.self.view_is) (wrote e.loan e.rest);
+    }
 
 pub invariant_of-self : goal.invariant_of-self
 invariant_of-self c =
-    let has : HasDataOf c.self.inside.heap.bytes c.args.name.0 (length c.args.bytes.now) = rw c.self.view_is c.requires in
-    let left = filled_steps c.self.inside.heap.bytes c.sys_write.new.self.bytes c.args.name.0 c.args.bytes.now c.self.invariant.accepted has c.sys_write.ensures.leaves in
-    record { accepted = left.accepted; free = stand_still (store_of c.self.inside.heap.bytes) (store_of c.sys_write.new.self.bytes) c.self.inside.known left.same.databases c.self.invariant.free }
-
-pub returns-clause-filled : goal.returns-clause-filled
-returns-clause-filled c =
-    let has : HasDataOf c.self.inside.heap.bytes c.args.name.0 (length c.args.bytes.now) = rw c.self.view_is c.requires in
-    rw (← c.self.view_is) (filled_steps c.self.inside.heap.bytes c.sys_write.new.self.bytes c.args.name.0 c.args.bytes.now c.self.invariant.accepted has c.sys_write.ensures.leaves)
-
-pub returns-clause-unmoved : goal.returns-clause-unmoved
-returns-clause-unmoved c = rw (← c.self.view_is) c.sys_write.ensures.unmoved
-
-pub sys_write-requires-clause-here : goal.sys_write-requires-clause-here
-sys_write-requires-clause-here c =
-    let has : HasDataOf c.self.inside.heap.bytes c.args.name.0 (length c.args.bytes.now) = rw c.self.view_is c.requires in
-    let d = data_held c.self.inside.heap.bytes c.args.name.0 (length c.args.bytes.now) has in
-    loose_here c.self.inside.heap c.args.name.0 c.sys_find-chunk.result d.live c.self.invariant.accepted.heap c.sys_find-chunk.ensures.stands d.there d.loose c.sys_find-chunk.ensures.unlocked
-
-pub returns-clause-kept : goal.returns-clause-kept
-returns-clause-kept c =
-    rw (← c.self.view_is) (record { loan = c.sys_write.ensures.loan; rest = c.sys_write.ensures.rest })
+    still_store (returns c).filled refl (rw (← c.self.view_is) c.self.invariant)

@@ -6,4 +6,5 @@ of-requires c = c.in_ok-header.ensures.spelled
 
 pub returns-clause-is : goal.returns-clause-is
 returns-clause-is c =
-    rw (← c.self.view_is) (read_here c.self.inside.heap.bytes c.in_ok-header.header.now c.args.db c.of.result c.in_ok-header.ensures.known c.in_ok-header.ensures.is c.of.ensures)
+    let header = c.in_ok-header.ensures in
+    rw (← c.self.view_is) (read_here _ _ _ _ header.known header.is c.of.ensures)

@@ -1,5 +1,5 @@
 -- Each turn appends the next loan.
-use Rattle.palm_store.proofs.Words.{ℕ, List, [], ◌∷◌, ◌++◌, sym, subst, append_assoc, arith, Name, AreLoansAbove}
+use Rattle.palm_store.proofs.Words.{List, [], ◌∷◌, ◌++◌, sym, subst, append_assoc, arith, Name, AreLoansAbove}
 use Rattle.std.proofs.Common.{append-nil}
 use Rattle.palm_store.proofs.store.Store.loans_from.Goals as goal
 

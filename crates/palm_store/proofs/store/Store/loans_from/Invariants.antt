@@ -1,5 +1,5 @@
 -- The names so far, followed by those of the loans above the last place, are those of all loans.
-use Rattle.palm_store.proofs.Words.{ℕ, List, ◌++◌, ◌-◌, ◌^◌, Name, AreLoansAbove}
+use Rattle.palm_store.proofs.Words.{List, ◌++◌, ◌-◌, ◌^◌, Name, AreLoansAbove}
 use Rattle.palm_store.proofs.store.Store.loans_from.Given as goal
 
 abbrev pub invariant-loop-loan : goal.invariant-loop-loan

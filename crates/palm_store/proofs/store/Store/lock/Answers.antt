@@ -2,10 +2,10 @@ use Rattle.palm_store.proofs.MemoryCalls.{forwarded, kept}
 use Rattle.palm_store.proofs.store.Store.lock.Goals as goal
 
 pub invariant_of-self : goal.invariant_of-self
-invariant_of-self c = kept c.self.inside.heap c.lock.new.self _ _ c.self.invariant c.lock.ensures.does
+invariant_of-self c = kept _ _ _ _ c.self.invariant c.lock.ensures.does
 
 pub returns-clause-does : goal.returns-clause-does
-returns-clause-does c = forwarded c.self.inside.heap c.args.self.now c.lock.new.self _ _ c.self.view_is c.self.invariant c.lock.ensures.does
+returns-clause-does c = forwarded _ _ _ _ _ c.self.view_is c.self.invariant c.lock.ensures.does
 
 pub returns-clause-unmoved : goal.returns-clause-unmoved
 returns-clause-unmoved c = rw (← c.self.view_is) c.lock.ensures.unmoved

@@ -2,4 +2,4 @@ use Rattle.palm_store.proofs.MemoryCalls.{asked}
 use Rattle.palm_store.proofs.store.Store.owner.Goals as goal
 
 pub returns : goal.returns
-returns c = asked c.self.inside.heap c.args.self.now _ _ c.self.view_is c.self.invariant.accepted c.owner.ensures
+returns c = asked _ _ _ _ c.self.view_is c.self.invariant.accepted c.owner.ensures

@@ -2,4 +2,4 @@ use Rattle.palm_store.proofs.MemoryCalls.{asked}
 use Rattle.palm_store.proofs.store.Store.read.Goals as goal
 
 pub returns-clause-does : goal.returns-clause-does
-returns-clause-does c = asked c.self.inside.heap c.args.self.now _ _ c.self.view_is c.self.invariant.accepted c.read.ensures.does
+returns-clause-does c = asked _ _ _ _ c.self.view_is c.self.invariant.accepted c.read.ensures.does

@@ -2,7 +2,7 @@ use Rattle.palm_store.proofs.MemoryCalls.{forwarded, kept}
 use Rattle.palm_store.proofs.store.Store.set_owner.Goals as goal
 
 pub invariant_of-self : goal.invariant_of-self
-invariant_of-self c = kept c.self.inside.heap c.set_owner.new.self _ _ c.self.invariant c.set_owner.ensures.does
+invariant_of-self c = kept _ _ _ _ c.self.invariant c.set_owner.ensures.does
 
 pub returns-clause-does : goal.returns-clause-does
-returns-clause-does c = forwarded c.self.inside.heap c.args.self.now c.set_owner.new.self _ _ c.self.view_is c.self.invariant c.set_owner.ensures.does
+returns-clause-does c = forwarded _ _ _ _ _ c.self.view_is c.self.invariant c.set_owner.ensures.does
