@@ -5,8 +5,7 @@ pub use Rattle.file_parts.proofs.ExactFolders.{packs_exactly}
 pub use Rattle.file_parts.proofs.ExactHeads.{data_with, filler_some, no_line, some_line, with_twice}
 pub use Rattle.file_parts.proofs.ExactInside.{rank_inside, ranks_once}
 pub use Rattle.file_parts.proofs.ExactOrders.{free_added, free_left_out, ranks_all}
-unfoldable pub use Rattle.file_parts.proofs.ExactPacked.{with_all}
-pub use Rattle.file_parts.proofs.ExactPacked.{appended_twice, block_is, blocks_whole, entries_whole, entry_more, fields_taken, joined_head, large_fault, misplaced_fault, misplaced_memory, offsets_are, placed_count, size_is, start_is}
+pub use Rattle.file_parts.proofs.ExactPacked.{appended_twice, block_is, blocks_whole, entries_whole, entry_more, fields_taken, joined_head, large_fault, misplaced_fault, misplaced_memory, offsets_are, placed_count, size_is, start_is, with_all}
 pub use Rattle.file_parts.proofs.ExactPackedBack.{packed_long}
 pub use Rattle.file_parts.proofs.ExactPlaces.{ArePlaced, blocks_of, placed_next, placed_none, size_before}
 pub use Rattle.file_parts.proofs.ExactRanks.{rest_from}

@@ -1,5 +1,5 @@
 -- The file that is written when a block is replaced: its blocks, its entries and its bytes.
-use Rattle.file_parts.proofs.AllWords.{◌≡◌, ℕ, ◌+◌, ◌<◌, ◌≤◌, Option, None, List, length, get_or, refl, sym, ap, ◌∙◌, arith, eq-eqb, ne_eqb, times, Entry, a_record, a_resource, data_in, entry_count_in, entry_in, entry_with, entry_offset, has_resources, block_bytes, blocks_in, entries_end, offsets_in, distinct-times, filler_in, block_count, offset_count, AreSorted, Replacing, ExactFile, IsExactly, exact_block, exact_database, exact_entry, exact_start, exact_of, HasValuesAt, IsOrdered, IsReplacing, block_in, block_replaced, exact_replacing}
+use Rattle.file_parts.proofs.AllWords.{subst, ◌≡◌, ℕ, ◌+◌, ◌<◌, ◌≤◌, Option, None, List, length, get_or, refl, sym, ap, ◌∙◌, arith, eq-eqb, ne_eqb, times, Entry, a_record, a_resource, data_in, entry_count_in, entry_in, entry_with, entry_offset, has_resources, block_bytes, blocks_in, entries_end, offsets_in, distinct-times, filler_in, block_count, offset_count, AreSorted, Replacing, ExactFile, IsExactly, exact_block, exact_database, exact_entry, exact_start, exact_of, HasValuesAt, IsOrdered, IsReplacing, block_in, block_replaced, exact_replacing}
 use Rattle.file_parts.proofs.ExactBlocks.{place_of, starts_of}
 use Rattle.file_parts.proofs.ExactRanks.{apart, get_or-same}
 use Rattle.file_parts.proofs.ExactRead.{blocks_exact, entries_long, exact_entry_is, is_exactly}
@@ -39,7 +39,8 @@ pub block_is : (r : Replacing) (rank : ℕ) → rank < length (blocks_in r.unpac
     ≡ block_replaced r.at r.part.now rank (block_in r.unpacked.file rank)
 block_is r rank inside =
     let same = blocks_exact r.unpacked.file in
-    let less : rank < length (data_in (exact_of r.unpacked).database) = rw same inside in
+    let less : rank < length (data_in (exact_of r.unpacked).database) =
+    subst (λ (bs : List (Option (List ℕ))). rank < length bs) (sym same) inside in
     block_there (exact_of r.unpacked) r.at r.part.now rank less
     ∙ ap (λ (bs : List (Option (List ℕ))). block_replaced r.at r.part.now rank
     (get_or bs rank None)) same

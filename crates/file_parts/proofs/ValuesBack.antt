@@ -1,5 +1,5 @@
 -- If a file without fault is exactly what is listed by values, no value is refused.
-use Rattle.file_parts.proofs.AllWords.{◌≡◌, ℕ, ◌+◌, ◌^◌, ◌<◌, Bool, true, false, Option, None, List, [], ◌∷◌, ◌++◌, length, get_or, take, sym, ap, ◌∙◌, arith, inl, inr, length-append, All, filter, is_some, slice_index, range_with_len, get_or_append_left, take-append-le, All-cons, All-head, All-nil, All-tail, AreBytes, Database, Entry, a_record, a_resource, IsDatabaseName, data_in, entry_with, has_resources, IsWritableEntry, block_count, offset_count, filled, filled_entries, part_at, with_parts, IsExactly, exact_database, exact_of_parts, is_other, IsNoExactFile, valued_text}
+use Rattle.file_parts.proofs.AllWords.{subst, ◌≡◌, ℕ, ◌+◌, ◌^◌, ◌<◌, Bool, true, false, Option, None, List, [], ◌∷◌, ◌++◌, length, get_or, take, sym, ap, ◌∙◌, arith, inl, inr, length-append, All, filter, is_some, slice_index, range_with_len, get_or_append_left, take-append-le, All-cons, All-head, All-nil, All-tail, AreBytes, Database, Entry, a_record, a_resource, IsDatabaseName, data_in, entry_with, has_resources, IsWritableEntry, block_count, offset_count, filled, filled_entries, part_at, with_parts, IsExactly, exact_database, exact_of_parts, is_other, IsNoExactFile, valued_text}
 use Rattle.file_parts.proofs.ExactFits.{all_writable, count_small, database_same}
 use Rattle.file_parts.proofs.ExactFolders.{names_are}
 use Rattle.file_parts.proofs.ExactNames.{after_right}
@@ -47,12 +47,15 @@ module _ (file : List ℕ) (d : Database (Option (List ℕ))) (after order : Lis
   pub entries_writable : All (IsWritableEntry (has_resources d.header.attributes)) d.entries
   entries_writable =
       all_unfilled (has_resources d.header.attributes) parts 2 d.entries
-      (rw same (all_writable file is.good b))
+      (subst (λ (one : Database (Option (List ℕ))).
+      All (IsWritableEntry (has_resources one.header.attributes)) one.entries) (sym same)
+      (all_writable file is.good b))
 
   pub few_entries : length d.entries < 2 ^ 16
   few_entries =
       let long = length-filled parts 2 d.entries in
-      let few = rw same (count_small file b) in
+      let few = subst (λ (one : Database (Option (List ℕ))). length one.entries < 2 ^ 16) (sym same)
+      (count_small file b) in
       omega arith
 
   pub valid_name : IsDatabaseName d.header.name
