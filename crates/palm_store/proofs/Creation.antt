@@ -46,8 +46,7 @@ header_put old mid new slot bytes h l w long =
 pub not_taken : (image given name : List ℕ) (db : ℕ) (found : Bool) → (IsTaken (store_of image) db given → IsTrue found) → found ≡ false → given ≡ name → IsTaken (store_of image) db name → ⊥
 not_taken image given name db found finds none is taken = both_ways found none (finds (subst (λ (n : List ℕ). IsTaken (store_of image) db n) (sym is) taken))
 
--- ---- the database that came
-
+-- the database that came
 pub slot_fits : (image : List ℕ) (slot : ℕ) → HeapAccepted image → owner_under image slot ≡ 0 → slot < 2 ^ 32
 slot_fits image slot h own =
     let s = owned_slot image slot h (inl own) in
@@ -118,8 +117,7 @@ appends_gained old new one sizes names a l fits named ids sums few free =
           (λ some. (let is = is_new name positive some in (l.once name positive, owner_none old name is.fresh, owner_held new name (zeros_of is.size) is.there)))
           (λ ne other none. owner_alike old new name (l.others name ne other (λ z. none)))
 
--- ---- what callers may name
-
+-- what callers may name
 hidden_none : (image : List ℕ) (name : ℕ) → owner_under image name ≡ 0 → callers_map image name ≡ None
 unfolding owner_under
 hidden_none image name own = hidden (held image name) own
@@ -161,8 +159,7 @@ as_whole old new slot bytes l = record {
   others = λ name ne other none. l.others name ne other;
 }
 
--- ---- the step
-
+-- the step
 pub few_listed : (image : List ℕ) → length (listed image) < most_databases → length (databases image) < most_databases
 few_listed image few = omega (arith, length-numbers (databases image), ap length (listed_numbers image))
 
@@ -200,8 +197,7 @@ not_created old new name kind creator resources date refusal a named few free la
     let why = inr (λ not_name. not_name named, inr (free, inr ((λ many. below_most old.bytes (few_listed old.bytes few) many), inl (lacks, is)))) in
     changes old new (calls.Database (Create name kind creator resources date)) (replies.Refused refusal) (store_of old.bytes) (λ tables. refl) a (same_steps old.bytes new.bytes a l) (why, left_as_before old new a l) loan tt rest
 
--- ---- what is refused at once
-
+-- what is refused at once
 pub not_named : (old : Memory) (name : List ℕ) (kind creator : ℕ) (resources : Bool) (date : ℕ) → Accepted old.bytes → (IsDatabaseName name → ⊥) → DoesInStore old (calls.Database (Create name kind creator resources date)) (replies.Refused InvalidName) old
 not_named old name kind creator resources date a unnamed = refused old (calls.Database (Create name kind creator resources date)) InvalidName a (inl (unnamed, refl))
 
@@ -218,8 +214,7 @@ pub too_many : (old : Memory) (name : List ℕ) (kind creator : ℕ) (resources 
 too_many old name kind creator resources date a named free many =
     refused old (calls.Database (Create name kind creator resources date)) TooManyEntries a (inr ((λ not_name. not_name named), inr (free, inl (most_there old.bytes many, refl))))
 
--- ---- its header
-
+-- its header
 bit_fits : (resources : Bool) → (if resources then 1 else 0) < 2 ^ 16
 bit_fits resources = grind (arith, nat_tests)
 

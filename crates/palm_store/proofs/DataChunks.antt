@@ -9,8 +9,7 @@ pub name_some : (image : List ℕ) (name : ℕ) (live : LiveChunk) → HeapAccep
 name_some image zero live h e = absurd (none_some (held image 0) live (held-zero image h) e)
 name_some image (suc name) live h e = omega arith
 
--- ---- a chunk that callers may name, and what it is
-
+-- a chunk that callers may name, and what it is
 pub record IsShown (image : List ℕ) (name : ℕ) (P : LiveChunk → Type 0) : Type 0 where
   pub live : LiveChunk
   pub there : held image name ≡ Some live

@@ -1,5 +1,4 @@
--- That a database is deleted is a step of the store, and so is that a locked chunk of it forbids
--- that.
+-- That a database is deleted, or that a locked chunk of it forbids that, is a step of the store.
 use Rattle.palm_store.proofs.Words.{◌≡◌, ◌≢◌, ℕ, ◌+◌, ◌*◌, ◌<◌, ◌≤◌, List, [], ◌∷◌, ◌++◌, length, Some, None, refl, ap, ◌∙◌, arith, inl, inr, cases_eq, cases_lt, ◌==◌, if◌then◌else◌, Any, is_some, Memory, KeepsLoan, HeapAccepted, directory_of, held, Still, gone, callers_map, times, Leaves, Database, data_in, Of, IsLocked, StoredDatabase, owner_of, owner_under, directory_bytes, database_under, Accepted, store_of, all_gone, DoesInStore, Db, ChunkLocked, Delete, times-cons, times-append, drop_steps, refused, in_here, in_store, number_slot, HasNumber, IsListedAt, named_under, Unlists}
 use Rattle.heap_model.specs.declared.call.Call.TheVariants as calls
 use Rattle.heap_model.specs.declared.call.Reply.TheVariants as replies
@@ -27,9 +26,7 @@ all_freed old mid new db l m = freed_alike old new (named_under old db ++ db ∷
     (λ name. omega (arith, times-append name (named_under old db) (db ∷ []), times-cons name db [], times-cons name db (named_under old db)))
     (freed_more old mid new (named_under old db) (db ∷ []) l (freed_one mid new db m))
 
--- ---- the directory before the slot is taken out
-
--- there is a directory
+-- the directory before the slot is taken out: there is a directory
 directory_some : (image : List ℕ) (db index : ℕ) → Accepted image → IsListedAt image db index → 0 < directory_of image
 directory_some image db index a at = elim (cases_lt 0 (directory_of image)) [
   | inl some ↦ some

@@ -1,5 +1,4 @@
--- A database that was deleted: its header and what it named are gone, and its slot is listed no
--- longer.
+-- A deleted database: its header and what it named are gone, and its slot is listed no longer.
 use Rattle.palm_store.proofs.Words.{◌≡◌, ◌≢◌, ℕ, ◌+◌, ◌*◌, ◌<◌, ◌≤◌, Bool, true, false, List, ◌∷◌, ◌++◌, length, take, drop, None, refl, sym, ap, ◌∙◌, arith, length-append, length-take, length-drop, inl, inr, cases_eq, ◌==◌, if◌then◌else◌, directory_of, held, same, times, u32s_in, Leaves, data_in, StoredDatabase, owner_under, directory_bytes, listed, databases, Accepted, all_gone, held-zero, Drops, Clears, same-yes, same-no, times-cons, named-remove, directory_owner, owned_some, has_databases, header_slots, length-numbers, number_at, directory_like, u32s_remove, Unlists}
 use Rattle.std.proofs.lemmas.Bool.Decides.{nat_tests}
 use Rattle.palm_store.proofs.Numbers.{Stands, length-listed, length-databases}

@@ -1,5 +1,4 @@
--- The entries of one database changed: what follows on two changes, and on one that changes
--- nothing.
+-- The entries of one database changed: two changes, and one that changes nothing.
 use Rattle.palm_store.proofs.Words.{◌≡◌, ℕ, Bool, List, [], ◌∷◌, set, Some, None, refl, sym, ap, subst, ◌∙◌, inl, inr, cases_eq, eq-eqb, ne_eqb, set-get_or, get_or_from_slice_get, ◌==◌, IsSome, slice_get, slice_set, find, Database, Entry, StoredDatabase, databases, Accepted, store_of, with_changed, with_number, entry_under, replaced_if, replaced, entry_changed, LeavesStore, Db, same_some, none_some, changed_by_number, changed_twice, number_once, raised_if}
 use Rattle.palm_store.proofs.OpenedEntries.{Here, here, entry_is}
 

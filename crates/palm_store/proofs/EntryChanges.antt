@@ -28,8 +28,7 @@ counted_alike : (counts : Bool) (d : Database ℕ) → (IsSound d → IsSound (c
 counted_alike true d = (raised_sound d, refl, refl)
 counted_alike false d = ((λ sound. sound), refl, refl)
 
--- a store whose database was changed and counted is the one that was changed, with its number
--- raised
+-- a database changed and counted is the changed one, with its number raised
 pub then_raised : (old new : List ℕ) (db : Db) (change : Database ℕ → Database ℕ) (store : Store) → LeavesStore old new (record store { databases = with_changed store.databases db.0 (λ database. counted (change database)) })
     → LeavesStore old new (raised (record store { databases = with_changed store.databases db.0 change }) db)
 then_raised old new db change store leaves = rw (changed_twice db.0 change counted store.databases) leaves
@@ -73,8 +72,7 @@ set_steps counts old new db index change entry after a has at is l fits names ow
     (alike.0 (replaced_own d index change entry (accepted_sound old db.0 a has) at fits names own)) alike.1
     (λ q some. (let same_data = ap (times q) alike.2 in let sums = replaced_names q d index change entry at in let kept = ap (λ (slot : ℕ). same slot q) slots in omega arith)))
 
--- A database changed, which names a chunk no more; that is freed, or has another owner. The change
--- may be counted.
+-- A changed database names a chunk no more, which is freed or has another owner.
 unnamed : (counts : Bool) (old new : List ℕ) (db : Db) (change : Database ℕ → Database ℕ) (slot : ℕ) (now : Option LiveChunk) → Accepted old → HasNumber old db.0
     → Leaves old new (edited (held old) db.0 (spelled (counted_if counts (change (database_here old db.0)))) (one_change slot now)) → IsSound (change (database_here old db.0))
     → (change (database_here old db.0)).header.name ≡ (database_here old db.0).header.name → (0 < slot → owner_under old slot ≡ data_owner) → owner_of now ≢ data_owner → IsCallersChange old (record { name = slot; now = now })
@@ -113,8 +111,7 @@ freed counts old mid new db index entry change a has at first second sound name 
       none_made_by old new db.0 slot (spelled d) None leaves (number_held old db.0 a has) (λ there. absurd cc),
     )
 
--- ---- a chunk that gets an owner
-
+-- a chunk that gets an owner
 abbrev pub owned_by : ℕ → LiveChunk → LiveChunk
 owned_by owner live = record live { owner = owner }
 
@@ -156,8 +153,7 @@ handed_steps counts old new db change slot owner a has own low high given_to sou
     let owner_is : owner_of now ≡ owner = ap owner_of now_is in
     unnamed counts old new db change slot now a has leaves sound same_name (λ some. own) (λ e. omega arith) (reowned_change old slot owner chunk.live now chunk.there (λ e. omega arith) (λ e. omega arith) now_is) sums
 
--- ---- the slot of an entry's data, when the database was written anew
-
+-- the slot of an entry's data, when the database was written anew
 pub slot_owner : (image : List ℕ) (db : Db) (index slot : ℕ) (entry : Entry ℕ) → Accepted image → HasNumber image db.0 → slice_get (database_here image db.0).entries index ≡ Some entry → slot ≡ entry_data entry → 0 < slot → owner_under image slot ≡ data_owner
 slot_owner image db index slot entry a has at is some = ap (owner_under image) is ∙ entry_owner image db.0 index entry a has at (omega arith)
 
@@ -207,8 +203,7 @@ free_steps counts old mid new db index entry after a has at is first second fits
     freed counts old mid new db index entry (with_entry_set index without_data) a has at (subst (λ (other : Database ℕ). Respells old mid db.0 (counted_if counts other)) (set_is d index without_data entry after at is) first) second sound refl
     (λ q some. (let sums = replaced_names q d index without_data entry at in let zero_is = same-no (entry_data (without_data entry)) q (λ e. omega arith) in omega arith))
 
--- ---- an entry dropped
-
+-- an entry dropped
 abbrev without_entry : ℕ → Database ℕ → Database ℕ
 without_entry index d = record d { entries = remove d.entries index }
 

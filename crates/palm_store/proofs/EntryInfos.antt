@@ -27,8 +27,7 @@ informed_own image db index (infos.Resource kind id) (a_record attributes old_id
     absurd (rw (sym (kind_here image db has) ∙ can) at (entry_fits (database_here image db.0) index (a_record attributes old_id slot) (accepted_sound image db.0 a has) at))
 informed_own image db index info entry a has at can = tt
 
--- ---- an entry without data
-
+-- an entry without data
 emptied_bit : (attributes : ℕ) → is_deleted (bit_or attributes deleted_bit) ≡ true
 emptied_bit attributes =
     let bit : bit_at (bit_or attributes 128) 7 ≡ 1 = (let both = bit_at_or attributes 128 7 in let here = bit_at-pow_same 7 in let low = bit_at-lt attributes 7 in omega arith) in

@@ -19,8 +19,7 @@ pub data_seen : (image : List ℕ) (name : ℕ) → IsDataName image name → na
 unfolding store_of owner_under bytes_under
 data_seen image name is some = sym (ap bytes_of (shown (held image name) (let own = named_data image name is some in λ e. omega arith)))
 
--- ---- a chunk for data of `count` bytes
-
+-- a chunk for data of `count` bytes
 pub record HoldsDataOf (image : List ℕ) (name count : ℕ) : Type 0 where
   pub live : LiveChunk
   pub there : held image name ≡ Some live

@@ -1,5 +1,4 @@
--- Chunks of zeros that were made for data: one, several one after the other, and all of them freed
--- again.
+-- Chunks of zeros that were made for data: one, several in order, and all of them freed again.
 use Rattle.palm_store.proofs.Words.{◌≡◌, ◌≢◌, ℕ, suc, ◌+◌, ◌-◌, ◌<◌, ◌≤◌, List, [], ◌∷◌, ◌++◌, length, get_or, set, take, drop, replicate, Option, Some, None, refl, sym, ap, subst, ◌∙◌, arith, length-append, inl, inr, cases_eq, map-append, get_or-map, length-map, take-map, take-append-drop, take_more, take_more_set, IfOk, OnOk, Ok, Err, is_some, AllZip, need, HeapAccepted, directory_of, LiveChunk, ChunkMap, Of, IsLocked, held, rooms, times, gone, Part, Lowers, Leaves, none_some, same-least, owner_under, all_gone, Name, Refusal, BlockSizes, frame_then, held-zero, same-yes, same-no, times-cons, times-append, directory_owner, slots_made, MakesNew, IsMovable, makings, WholeEntry, size_of_data, data_sizes, numbers_in, IsGained, GainsZeros, RunsOut, Spends, MakesAll, AreOwnChunks}
 use Rattle.std.specs.Prelude.{Result}
 use Rattle.laws_store.proofs.Edited.{here as updated_here, apart as updated_apart}
@@ -8,8 +7,7 @@ use Rattle.palm_store.proofs.NamedChunks.{freed_one, freed_more}
 use Rattle.palm_store.proofs.TwoChanges.{is_there}
 use Rattle.palm_store.proofs.WholeRooms.{spends_both, makings-append, runs_more, runs_then}
 
--- ---- pairs of lists
-
+-- pairs of lists
 pub zip_weaken : {A B : Type 0} (R Q : A → B → Type 0) (xs : List A) (ys : List B) → ((x : A) (y : B) → R x y → Q x y) → AllZip R xs ys → AllZip Q xs ys
 zip_weaken R Q (x ∷ xs) (y ∷ ys) weaken all = (weaken x y all.0, zip_weaken R Q xs ys weaken all.1)
 zip_weaken R Q xs ys weaken all = all
@@ -19,8 +17,7 @@ zip_append R [] zs [] ws all more = more
 zip_append R (x ∷ xs) zs (y ∷ ys) ws all more = (all.0, zip_append R xs zs ys ws all.1 more)
 zip_append R xs zs ys ws all more = absurd all
 
--- ---- names that came
-
+-- names that came
 abbrev pub zeros_of : ℕ → LiveChunk
 zeros_of size = record { bytes = replicate size 0; lock = 0; owner = 15 }
 
@@ -59,8 +56,7 @@ none_before old new sizes names g name none = by (old name) refl where
   by None e = e
   by (Some live) e = absurd (none_some (new name) live none (kept_gaining old new sizes names g name live e))
 
--- ---- one after the other
-
+-- one after the other
 pub gains_both : (first mid last : ChunkMap) (sizes more : List (Option ℕ)) (names others : List ℕ) → GainsZeros first mid sizes names → GainsZeros mid last more others → GainsZeros first last (sizes ++ more) (names ++ others)
 gains_both first mid last sizes more names others g h = record {
   each = zip_append (IsGained first last) sizes more names others (zip_weaken (IsGained first mid) (IsGained first last) sizes names (λ size name. front size name) g.each)
@@ -118,8 +114,7 @@ makes_one old new name size h m lowers =
       slots = slots_made old new name h m.leaves.frame.accepted m.leaves.frame.slots apart;
     }
 
--- ---- freed again
-
+-- freed again
 pub own_chunks : (old new : List ℕ) (sizes : List (Option ℕ)) (names : List ℕ) → HeapAccepted old → MakesAll old new sizes names → AreOwnChunks new names
 own_chunks old new sizes names h m = record {
   movable = λ name some at. (let is = gained (held old) (held new) sizes names m.gains.each name some at in record { live = zeros_of is.size; is_held = is.there; movable = λ e. omega arith });
@@ -148,9 +143,7 @@ taken_back old mid new sizes names h m l = record {
     | inr some ↦ (gained (held old) (held mid) sizes names m.gains.each name (omega arith) at).fresh
   ]
 
--- ---- one name after another
-
--- an element of a list, by its index
+-- one name after another: an element of a list, by its index
 pub record IsAt {A : Type 0} (xs : List A) (index : ℕ) (x none : A) : Type 0 where
   pub below : index < length xs
   pub is : x ≡ get_or xs index none
@@ -194,8 +187,7 @@ pub freed_upto : (old mid new : List ℕ) (names : List ℕ) (index name : ℕ) 
 freed_upto old mid new names index name l m at =
     subst (λ (passed : List ℕ). Leaves old new (all_gone (held old) passed)) (sym (next_of names index name 0 at)) (freed_more old mid new (take index names) (name ∷ []) l (freed_one mid new name m))
 
--- ---- one size after another
-
+-- one size after another
 abbrev pub IsSizeAt : List (Option ℕ) → ℕ → Option ℕ → Type 0
 IsSizeAt sizes index size = IsAt sizes index size None
 

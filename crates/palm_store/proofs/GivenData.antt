@@ -1,5 +1,4 @@
--- A caller's chunk that becomes the data of an entry: of a new one, or of one that hands over the
--- data that it had.
+-- A caller's chunk becomes the data of a new entry, or of one that hands over its data.
 use Rattle.palm_store.proofs.Words.{◌≡◌, ◌≢◌, ℕ, ◌+◌, ◌<◌, ◌≤◌, Bool, true, List, [], ◌∷◌, length, Option, Some, refl, sym, ap, subst, ◌∙◌, arith, rules, All-nil, All-cons, IsSome, slice_get, need, fixed_lock, data_owner, HeapAccepted, directory_of, LiveChunk, ChunkMap, held, same, times, updated, changed, reowned, callers_map, rooms, ShortFor, growth_part, Stuck, entry_size, Entry, a_record, a_resource, entry_data, entry_with, Database, data_in, spelled, has_resources, EntryFits, owner_of, bytes_under, owner_under, databases, Accepted, store_of, with_changed, IsSound, Leaves, Respells, rewritten, SpellsHere, database_here, most_entries, entries_in, data_under, resources_under, with_entry_at, entry_attached, data_exchanged, entry_swapped, raised, LeavesStore, MakesNone, Db, HasOwnId, Change, IsCallersChange, inserted_sound, inserted_names, raised_sound, replaced_own, replaced_names, seeded_name, one_change, edited, made_balance, exchanged_balance, edit_steps, each_one, accepted_sound, number_slot, number_held, data_here, entries_here, kind_here, directory_owner, one_grown, IsMovable, counted, entry_inserted, entry_written, HasNoRoomForEntry, HasNumber, NewEntry, IsMadeOf, TakesIn, MayBeGiven}
 use Rattle.laws_store.proofs.Edited.{apart as updated_apart}
 use Rattle.palm_store.proofs.Maps.{owner_held}
@@ -26,8 +25,7 @@ given_apart image db name a has g e =
 given_no_data : (image : List ℕ) (name : ℕ) → IsGiven image name → owner_under image name ≢ data_owner
 given_no_data image name g e = g.holds.0 (sym (owner_held image name g.live g.there) ∙ e)
 
--- ---- it can be given to the database in an image where it is as it was
-
+-- it can be given to the database in an image where it is as it was
 pub given_movable : (old new : List ℕ) (name : ℕ) → IsGiven old name → held new name ≡ held old name → IsMovable new name
 given_movable old new name g kept = record { live = g.live; is_held = kept ∙ g.there; movable = g.holds.1 }
 
@@ -59,8 +57,7 @@ given_steps old new db change name a has g given_to sound same_name counts =
       balance = made_balance old new db.0 (spelled (change d)) name now leaves d (change d) (given_no_data old name g) (ap owner_of now_is) counts;
     })
 
--- ---- a new entry
-
+-- a new entry
 pub takes_in : (old mid new : List ℕ) (db at : ℕ) (entry after : Entry ℕ) (name : ℕ) → after ≡ entry → Respells old mid db (entry_inserted at after (database_here old db)) → Leaves mid new (reowned (held mid) name data_owner) → TakesIn old new db at entry name
 takes_in old mid new db at entry after name is first second =
     written_then_owned old mid new db name data_owner (entry_inserted at entry (database_here old db)) (subst (λ (e : Entry ℕ). Respells old mid db (entry_inserted at e (database_here old db))) is first) second
@@ -109,8 +106,7 @@ own_with : (entries : List (Entry ℕ)) (index name : ℕ) (entry : Entry ℕ) �
 own_with entries index name (a_record attributes id slot) own = own
 own_with entries index name (a_resource kind id slot) own = own
 
--- ---- what an entry hands over, and what it is given
-
+-- what an entry hands over, and what it is given
 pub slot_apart : (image : List ℕ) (slot name : ℕ) → IsGiven image name → owner_under image slot ≡ data_owner → name ≢ slot
 slot_apart image slot name g own e = given_no_data image name g (ap (owner_under image) e ∙ own)
 

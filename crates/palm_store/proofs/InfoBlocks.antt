@@ -1,5 +1,4 @@
--- A database gets an info block, which was a caller's chunk, or has one no longer, which a caller
--- gets.
+-- A database gets an info block from a caller's chunk, or hands its own over to a caller.
 use Rattle.palm_store.proofs.Words.{◌≡◌, ◌≢◌, ℕ, ◌+◌, ◌<◌, false, List, refl, sym, ap, subst, ◌∙◌, arith, inl, inr, ◌⊎◌, data_owner, u32_at, directory_of, held, same, times, reowned, callers_map, Database, data_in, database_in, spelled, DatabaseFits, owner_under, IsInfoBlock, databases, Accepted, store_of, with_changed, IsSound, Leaves, Respells, rewritten, database_here, info_block, with_info_block, info_block_of, info_block_under, info_block_set, info_block_taken, raised, LeavesStore, Db, Which, same-no, accepted_sound, number_database, number_here, IsMovable, HasNumber, with_block}
 use Rattle.heap_model.specs.declared.names.Which.TheVariants.{App, Sort}
 use Rattle.laws_store.proofs.NameCounts.{times-data}
@@ -17,8 +16,7 @@ pub names_block : (q : ℕ) (which : Which) (slot : ℕ) (d : Database ℕ) → 
 names_block q App slot d = omega (arith, times-data q d, times-data q (with_block App slot d))
 names_block q Sort slot d = omega (arith, times-data q d, times-data q (with_block Sort slot d))
 
--- ---- the block that there is
-
+-- the block that there is
 pub block_here : (image : List ℕ) (db : Db) (which : Which) → HasNumber image db.0 → info_block_under (store_of image) db which ≡ info_block which (database_here image db.0)
 block_here image db which has = ap (info_block_of which) (number_here image db.0 has)
 
@@ -55,8 +53,7 @@ pub block_read : (body : List ℕ) (which : Which) (slot : ℕ) → ((which ≡ 
 unfolding database_in
 block_read body which slot is = elim is [ inl app ↦ rw app.0 app.1 | inr sort ↦ rw sort.0 sort.1 ]
 
--- ---- the steps
-
+-- the steps
 sound_with : (image : List ℕ) (db : ℕ) (which : Which) (slot : ℕ) → Accepted image → HasNumber image db → DatabaseFits (with_block which slot (database_here image db)) → IsSound (with_block which slot (database_here image db))
 sound_with image db App slot a has fits = sound_like (database_here image db) (with_block App slot (database_here image db)) (accepted_sound image db a has) fits refl
 sound_with image db Sort slot a has fits = sound_like (database_here image db) (with_block Sort slot (database_here image db)) (accepted_sound image db a has) fits refl

@@ -18,9 +18,7 @@ ids_found stored number = filter_map unique_id (entries_of (find (λ one. one.db
 pub stand_still : (old new : Store) (known : KnownIds) → new.databases ≡ old.databases → StandFree old known → StandFree new known
 stand_still old new known same free = λ id among. rw same (free id among)
 
--- ---- one database is changed
-
--- no database gets an ID that it had not
+-- one database is changed: no database gets an ID that it had not
 abbrev LacksStill : ℕ → (Database ℕ → Database ℕ) → Type 0
 LacksStill id change = (database : Database ℕ) → times id (unique_ids database) ≡ 0 → times id (unique_ids (change database)) ≡ 0
 
@@ -60,9 +58,7 @@ counted_free : (old new : List StoredDatabase) (db : ℕ) (change : Database ℕ
 counted_free old new db change known is lacks free =
     changed_free (with_changed old db change) new db counted known is (λ id among database none. none) (changed_free old (with_changed old db change) db change known refl lacks free)
 
--- ---- the entries of one database are changed
-
--- no entry has the ID
+-- the entries of one database are changed: no entry has the ID
 abbrev Lack : ℕ → List (Entry ℕ) → Type 0
 Lack id entries = All (λ entry. has_id id entry ≤ 0) entries
 
@@ -124,8 +120,7 @@ changed_lack id index change entries (Some entry) gets at lack =
     let still = other_id id (change entry) (λ has. no_id id entry none (gets entry has)) in
     All-set (λ entry. has_id id entry ≤ 0) entries index (change entry) (omega arith) lack
 
--- The entry of an index is changed, which gets none of the IDs; the modification number may be
--- raised.
+-- the entry of an index is changed, and gets none of the IDs
 pub change_free : (counts : Bool) (old mid new : Store) (db : Db) (index : ℕ) (change : Entry ℕ → Entry ℕ) (known : KnownIds)
     → mid.databases ≡ (entry_changed old db index change).databases → new.databases ≡ (raised_if counts mid db).databases → GetsNone known change → StandFree old known → StandFree new known
 change_free counts old mid new db index change known is then_is gets free = by counts then_is where
@@ -165,8 +160,7 @@ move_free old new db from to known is =
 pub attributes_free : (old new : Store) (db : ℕ) (change : ℕ → ℕ) (known : KnownIds) → new.databases ≡ with_changed old.databases db (attributes_changed change) → StandFree old known → StandFree new known
 attributes_free old new db change known is = changed_free old.databases new.databases db (attributes_changed change) known is (λ id among database none. rw (ids_kept change database.entries) none)
 
--- ---- known IDs without one
-
+-- known IDs without one
 left_among : (old left : FreeIds) (one id : ℕ) → IsWithout old one left → IsInRange left id → IsInRange old id × (one ≢ id)
 left_among old left one id without among = elim (cases_among old one) [
   | inl here ↦ (let both = (without.behind here id).0 among in (both.0, λ e. (let behind = both.1 in absurd (omega (arith, behind, e)))))
@@ -182,8 +176,7 @@ pub left_gets : (known : KnownIds) (left : FreeIds) (attributes one : ℕ) → I
 left_gets known left attributes one without id among (a_record old_attributes other slot) has = absurd ((left_among known.ids left one id without among).1 cc)
 left_gets known left attributes one without id among (a_resource kind other slot) has = has
 
--- ---- a new entry
-
+-- a new entry
 pub same_number : (store : Store) (one other : Db) → one.0 ≡ other.0 → ids_in store one ≡ ids_in store other
 same_number store one other same = ap (λ (number : ℕ). filter_map unique_id (entries_of (with_number store number))) same
 

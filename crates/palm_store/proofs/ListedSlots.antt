@@ -11,9 +11,7 @@ use Rattle.palm_store.proofs.TwoSteps.{changed_keeps, made_keeps, still_after, t
 abbrev pub chunk_of : List ℕ → LiveChunk
 chunk_of bytes = record { bytes = bytes; lock = 0; owner = 0 }
 
--- ---- what was made
-
--- it has no lock
+-- what was made: it has no lock
 pub made_chunk : (old new : List ℕ) (name size owner : ℕ) → MakesNew old new name size owner → held new name ≡ Some (record { bytes = replicate size 0; lock = 0; owner = owner })
 made_chunk old new name size owner m = name_now name _ m.leaves
 
@@ -33,8 +31,7 @@ given_back old mid new slot size m g =
       still = both.still;
     }
 
--- ---- what was written
-
+-- what was written
 pub put_here : (old new : List ℕ) (name at : ℕ) (part : List ℕ) (live : LiveChunk) → Leaves old new (put (held old) name at part) → held old name ≡ Some live → held new name ≡ Some (record live { bytes = overwritten live.bytes at part })
 put_here old new name at part live l e = chunk_now name (λ x. record x { bytes = overwritten x.bytes at part }) l e
 
@@ -57,8 +54,7 @@ more_written old part size at long end =
     let grown : sized_to old size ≡ old ++ zeros = ap (λ (xs : List ℕ). xs ++ replicate (size - length old) 0) (take_all size old (omega arith)) ∙ (let more : size - length old ≡ length part = omega arith in rw more refl) in
     rw (grown, end) (rw (take-append_seam old zeros, drop_all (length old + length part) (old ++ zeros) (omega arith), append-nil) refl)
 
--- ---- the directory that there is
-
+-- the directory that there is
 pub directory_owned : (image : List ℕ) (name : ℕ) → HeapAccepted image → 0 < directory_of image → name ≡ directory_of image → owner_under image name ≡ 0
 directory_owned image name h some is = ap (owner_under image) is ∙ directory_owner image h some
 
@@ -81,8 +77,7 @@ made_apart {owner} old mid slot size low h m e =
 pub fresh_apart : (old mid : List ℕ) (slot size : ℕ) → HeapAccepted old → MakesNew old mid slot size 0 → slot ≢ directory_of mid
 fresh_apart old mid slot size h m = made_apart old mid slot size (omega arith) h m
 
--- ---- a slot is listed
-
+-- a slot is listed
 pub begun : (old first second new : List ℕ) (name slot : ℕ) (word : List ℕ) → HeapAccepted old → directory_of old ≡ 0 → MakesNew old first name 4 0 → Leaves first second (put (held first) name 0 word) → NamesDirectory second new name → word ≡ u32_bytes slot → ListsLast old new slot
 begun old first second new name slot word h none m l n is =
     let four : length word ≡ 4 = ap length is ∙ length-u32_bytes slot in
@@ -140,9 +135,7 @@ growth_short old name size live refusal e loose here brings =
       ]
     ]
 
--- ---- the chunk of the directory
-
--- a chunk without a lock is a movable one
+-- the chunk of the directory: a chunk without a lock is a movable one
 pub loose_movable : (image : List ℕ) (name : ℕ) (live : LiveChunk) → held image name ≡ Some live → live.lock ≡ 0 → IsMovable image name
 loose_movable image name live there loose = record { live = live; is_held = there; movable = λ e. omega arith }
 

@@ -13,8 +13,7 @@ use Rattle.palm_store.proofs.KnownIds.{stand_still}
 pub none_lent : (memory : Memory) (name : ℕ) → memory.lents ≡ [] → IsLent memory name → ⊥
 none_lent memory name none lent = rw none at lent
 
--- ---- chunks of the manager's
-
+-- chunks of the manager's
 pub managers_here : (memory : Memory) (name : ℕ) → owner_under memory.bytes name ≡ 0 → IsHere memory name
 managers_here memory name own = record { not_lent = λ other lent. other own }
 
@@ -27,8 +26,7 @@ number_here memory db a has = managers_here memory db (number_slot memory.bytes 
 pub directory_here : (memory : Memory) (name : ℕ) → HeapAccepted memory.bytes → name ≡ directory_of memory.bytes → name ≢ 0 → IsHere memory name
 directory_here memory name h is some = managers_here memory name (ap (owner_under memory.bytes) is ∙ directory_owner memory.bytes h (omega arith))
 
--- ---- chunks without a lock
-
+-- chunks without a lock
 pub loose_here : (memory : Memory) (name : ℕ) (found : Found) (live : LiveChunk) → HeapAccepted memory.bytes → StandsAs memory.bytes name found → held memory.bytes name ≡ Some live → live.lock ≡ 0 → (found.lock ≡ 0 → IsLent memory name → ⊥) → IsHere memory name
 loose_here memory name found live h s there none unlocked = record { not_lent = λ other lent. unlocked (lock_viewed memory memory name found live refl h s.is there ∙ none) lent }
 
@@ -43,9 +41,7 @@ unlocked_here memory name found h s m not_locked unlocked =
     ] in
     record { not_lent = λ other lent. unlocked none lent }
 
--- ---- bytes that are taken out
-
--- what callers see of a heap's chunk, they see of a store's
+-- bytes that are taken out: what callers see of a heap's chunk, they see of a store's
 pub seen_bytes : (image : List ℕ) (name : ℕ) (bytes : List ℕ) → bytes_of (callers_map image name) ≡ bytes → bytes_of ((store_of image).map name) ≡ bytes
 unfolding store_of
 seen_bytes image name bytes is = is

@@ -1,5 +1,4 @@
--- Bytes that are out of a store stay out while calls are done. Once they are back, what is lent is
--- what was lent before.
+-- Bytes that are out of a store stay out during calls, and are then back as before.
 use Rattle.palm_store.proofs.Words.{◌≡◌, length, sym, ap, subst, ◌∙◌, Memory, KeepsLoan, place_of, Name, OnLoan, IsOutUnder, TakesOutOfStore, PutsBackInStore}
 use Rattle.std.specs.Prelude.{Some}
 use Rattle.mem_manager.proofs.OutLaws.{out_stays, back_restores}

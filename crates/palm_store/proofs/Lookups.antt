@@ -1,12 +1,10 @@
--- Calls that ask of the databases of a store. They leave the region as it is, so of each its
--- refusals and its answer are left to show.
+-- Calls that ask of databases leave the region as it is; here are their refusals and replies.
 use Rattle.palm_store.proofs.Words.{◌≡◌, ◌≢◌, ℕ, ◌<◌, ◌≤◌, List, length, map, get_or, Bool, Option, Some, None, Result, refl, sym, ap, ◌∙◌, arith, inl, All-map, get_or_default_zero, slice_get-get_or, ◌↔◌, All, slice_get, IsTrue, IfSome, IfNone, is_some, ok_or, Memory, Database, header_in, database_in, StoredDatabase, bytes_under, listed, database_under, databases, numbers_of, names_of, Accepted, store_of, IsTaken, info_of, reply_of, DoesInStore, Db, DbInfo, Find, Nth, Count, Info, Refusal, NoSuchDatabase, all-times, map-All, listed_numbers, asks, same_store, refused, DbHeader, IsHeaderOf, info_told, HasNumber, HasOtherName, name_under, number_some}
 use Rattle.heap_model.specs.declared.call.Call.TheVariants as calls
 use Rattle.heap_model.specs.declared.call.Reply.TheVariants as replies
 use Rattle.palm_store.proofs.Numbers.{number_listed, has_number_is, in_store, length-databases, database_at, listed_at, number_of_slot}
 
--- ---- by name
-
+-- by name
 name_read : (image : List ℕ) (slot : ℕ) → (database_under image slot).database.header.name ≡ name_under image slot
 unfolding database_in header_in
 name_read image slot = refl
@@ -34,8 +32,7 @@ found region name db a has e =
     asks region (calls.Database (Find name)) (replies.Database db) a
     ((name_there region.bytes name db.0 has e, tt), (in_store region.bytes db (λ (database : Database ℕ). database.header.name ≡ name) has (name_read region.bytes db.0 ∙ e), same_store region))
 
--- ---- names that are taken
-
+-- names that are taken
 pub taken_at : (image name : List ℕ) (db index : ℕ) → index < length (listed image) → get_or (listed image) index 0 ≢ db → name_under image (get_or (listed image) index 0) ≡ name → IsTaken (store_of image) db name
 unfolding store_of
 taken_at image name db index below other e = (index, database_under image (get_or (listed image) index 0), omega (arith, length-databases image), database_at image index _ below, (other, name_read image _ ∙ e))
@@ -72,8 +69,7 @@ pub answered : (region : Memory) (name given : List ℕ) (named : Option Db) (re
 answered region name given (Some db) result a same has none e = rw e (found region name db a has.number (has.named ∙ same))
 answered region name given None result a same has none e = rw e (not_found region name a (rw same at none))
 
--- ---- by index
-
+-- by index
 pub at_index : (region : Memory) (index : ℕ) (db : Db) → Accepted region.bytes → index < length (listed region.bytes) → db.0 ≡ get_or (listed region.bytes) index 0 → DoesInStore region (calls.Database (Nth index)) (replies.Database db) region
 unfolding store_of
 at_index region index db a below is =

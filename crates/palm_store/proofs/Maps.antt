@@ -2,9 +2,7 @@
 use Rattle.palm_store.proofs.Words.{◌≡◌, ◌≢◌, ℕ, ◌<◌, List, Option, Some, None, refl, ap, ◌∙◌, arith, eq-eqb, ne_eqb, ◌==◌, is_some, HeapAccepted, LiveChunk, ChunkMap, held, updated, changed, changed_at, Still, times, Leaves, bytes_of, owner_of, bytes_under, owner_under, all_gone, cond-true, cond-false, owned_some}
 use Rattle.laws_store.proofs.Edited.{here as updated_here, apart as updated_apart}
 
--- ---- one name that changed
-
--- it stands for this now
+-- one name that changed: it stands for this now
 pub name_now : {old new : List ℕ} (name : ℕ) (now : Option LiveChunk) → Leaves old new (updated (held old) name now) → held new name ≡ now
 name_now {old} name now l = l.map name ∙ updated_here (held old) name now name refl
 
@@ -16,8 +14,7 @@ chunk_now name change l e = name_now name _ l ∙ ap (changed change) e
 pub others_now : {old new : List ℕ} (name : ℕ) (now : Option LiveChunk) → Leaves old new (updated (held old) name now) → (other : ℕ) → other ≢ name → held new other ≡ held old other
 others_now {old} name now l other ne = l.map other ∙ updated_apart (held old) name now other ne
 
--- ---- a map without some names
-
+-- a map without some names
 pub gone_out : (chunks : ChunkMap) (names : List ℕ) (name : ℕ) → times name names ≡ 0 → all_gone chunks names name ≡ chunks name
 gone_out chunks names name none = cond-true (times name names == 0) (chunks name) None (eq-eqb (times name names) 0 none)
 
@@ -30,8 +27,7 @@ kept old mid names name l none = l.map name ∙ gone_out (held old) names name n
 pub is_gone : (old mid : List ℕ) (names : List ℕ) (name : ℕ) → Leaves old mid (all_gone (held old) names) → 0 < times name names → held mid name ≡ None
 is_gone old mid names name l some = l.map name ∙ gone_in (held old) names name some
 
--- ---- the chunk of a name
-
+-- the chunk of a name
 pub owner_held : (image : List ℕ) (name : ℕ) (live : LiveChunk) → held image name ≡ Some live → owner_under image name ≡ live.owner
 unfolding owner_under
 owner_held image name live e = ap owner_of e

@@ -8,8 +8,7 @@ use Rattle.palm_store.proofs.Maps.{gone_out, gone_in, kept, owner_alike, owned}
 pub use Rattle.palm_store.proofs.TwoSteps.{no_chunk}
 use Rattle.std.proofs.lemmas.Bool.Decides.{nat_tests}
 
--- ---- the slots in the bytes of a database
-
+-- the slots in the bytes of a database
 pub length-named : (body : List ℕ) → length (data_in (database_in body)) ≡ 2 + entry_count_in body
 unfolding database_in
 length-named body = omega (arith, length-map-range_with_len (entry_in body) 0 (entry_count_in body), length-map (database_in body).entries entry_data)
@@ -42,8 +41,7 @@ later_named body index past below =
     let is : index ≡ suc (suc (index - 2)) = omega arith in
     ap (λ (k : ℕ). get_or (data_in (database_in body)) k 0) is ∙ entry_named body (index - 2) (omega (arith, length-named body, past, below))
 
--- ---- the chunks of a database
-
+-- the chunks of a database
 pub named_times : (image : List ℕ) (db name : ℕ) → Accepted image → HasNumber image db → 0 < name → times name (named_under image db) ≤ same (owner_under image name) 15
 named_times image db name a has some = (let at = listed_at image db has in named_most image at.0 (database_under image db) a (stands image db at.0 at.1) name some)
 
@@ -57,8 +55,7 @@ named_owner image db name a has some there = same-is (owner_under image name) 15
 pub not_named : (image : List ℕ) (db name : ℕ) → Accepted image → HasNumber image db → 0 < name → owner_under image name ≢ 15 → times name (named_under image db) ≡ 0
 not_named image db name a has some other = omega (arith, named_times image db name a has some, same-no (owner_under image name) 15 other)
 
--- ---- chunks that are freed
-
+-- chunks that are freed
 pub freed_none : (image : List ℕ) → HeapAccepted image → Leaves image image (all_gone (held image) [])
 freed_none image h = record { map = λ name. refl; frame = same_frame image h; still = λ name live e locked there. refl }
 
@@ -90,8 +87,7 @@ freed_more old mid new first second l m = record {
         both : (a b : ℕ) (o : Option LiveChunk) → (if b == 0 then (if a == 0 then o else None) else None) ≡ (if a + b == 0 then o else None)
         both a b o = grind (arith, nat_tests)
 
--- ---- one slot after the other
-
+-- one slot after the other
 times_take : (name index : ℕ) (names : List ℕ) → times name (take index names) ≤ times name names
 times_take name index names = omega (arith, ap (times name) (take-append-drop index names), times-append name (take index names) (drop index names))
 
@@ -161,8 +157,7 @@ slot_shown image db index slot a has at = elim (cases_eq slot 0) [
 pub freed_next : (old mid new : List ℕ) (db index slot : ℕ) → IsNamedAt old db index slot → Leaves old mid (all_gone (held old) (take index (named_under old db))) → Leaves mid new (all_gone (held mid) (slot ∷ [])) → Leaves old new (all_gone (held old) (take (index + 1) (named_under old db)))
 freed_next old mid new db index slot at l m = rw (take_more (named_under old db) index 0 at.below, ← at.is) (freed_more old mid new (take index (named_under old db)) (slot ∷ []) l m)
 
--- ---- of some names of a list
-
+-- of some names of a list
 pub any_at : (P : ℕ → Type 0) (names : List ℕ) (index name : ℕ) → index < length names → name ≡ get_or names index 0 → P name → Any P names
 any_at P names index name below is p = (index, name, below, get_or_default_zero names index name below ∙ sym is, p)
 

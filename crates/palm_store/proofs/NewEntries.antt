@@ -10,8 +10,7 @@ use Rattle.palm_store.proofs.TwoSteps.{then_respelled, database_kept}
 -- The chunk may be freed again.
 pub use Rattle.palm_store.proofs.ListedSlots.{given_back}
 
--- ---- when the chunk was made
-
+-- when the chunk was made
 abbrev chunk_made : ℕ → Option LiveChunk
 chunk_made size = Some (record { bytes = replicate size 0; lock = 0; owner = data_owner })
 
@@ -42,9 +41,7 @@ puts_in old mid new db at entry after name size s m is l = record {
       (rw (is, database_still old mid db name size s m) at l);
 }
 
--- ---- there was no room
-
--- what spells a database has no lock
+-- there was no room: what spells a database has no lock
 pub record Header (image : List ℕ) (db : ℕ) : Type 0 where
   pub live : LiveChunk
   pub there : held image db ≡ Some live
@@ -62,8 +59,7 @@ no_header_room old mid db name size resources kind s m lowers short =
     inr (made_then_short old mid (need size) db.0 (length (bytes_under old db.0) + entry_size (resources_under (store_of old) db)) head.live m.leaves.frame.accepted lowers head.there (kept ∙ head.there) head.loose
     (rw (bytes_like old mid db.0 kept, kind) at short))
 
--- ---- the step of the store
-
+-- the step of the store
 pub named_so : (slot : ℕ) (entry : Entry ℕ) → entry_data (entry_with (λ none. slot) entry) ≡ slot
 named_so slot (a_record attributes id none) = refl
 named_so slot (a_resource kind id none) = refl

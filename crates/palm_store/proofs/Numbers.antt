@@ -1,5 +1,4 @@
--- The databases of an accepted image by their numbers: which names of chunks are numbers, and what
--- stands under one.
+-- The databases of an accepted image: which names are numbers, and what is under one.
 use Rattle.palm_store.proofs.Words.{◌≡◌, ◌≢◌, ℕ, ◌*◌, ◌/◌, ◌<◌, List, [], length, get_or, None, sym, ap, ◌∙◌, arith, inl, inr, cases_lt, get_or-map, length-map, length-map-range_with_len, get_or-map-range_with_len, get_or_default_zero, managers_owner, u32_at, HeapAccepted, directory_of, held, times, database_in, HasShape, StoredDatabase, bytes_of, bytes_under, owner_under, directory_bytes, listed, database_under, databases, IsHeaderSlot, Accepted, store_of, with_number, held-zero, times-some, times-contained, contained-times, spelled_shape, directory_owner, IsMovable, is_movable, HasNumber, IsListedAt}
 -- These laws are those of numbers in an accepted image.
 pub use Rattle.laws_store.proofs.Numbered.{with_number_is, with_number_none, number_listed, listed_number, number_here as has_number_is, in_store, number_slot, number_held, number_spelled}
@@ -30,8 +29,7 @@ number_movable image db a has = is_movable image db (record { heap = a.heap; own
 pub number_shape : (image : List ℕ) (db : ℕ) → Accepted image → HasNumber image db → HasShape (bytes_under image db)
 number_shape image db a has = spelled_shape (database_in (bytes_under image db)) (bytes_under image db) (number_spelled image db a has)
 
--- ---- the databases by index
-
+-- the databases by index
 pub length-listed : (image : List ℕ) → length (listed image) ≡ length (directory_bytes image) / 4
 unfolding listed
 length-listed image = length-map-range_with_len (λ i. u32_at (directory_bytes image) (4 * i)) 0 (length (directory_bytes image) / 4)
@@ -77,8 +75,7 @@ slot_in image bytes index db same below is = record { inside = omega (arith, cou
 pub slot_read : (image bytes : List ℕ) (index : ℕ) → bytes ≡ directory_bytes image → index < length (listed image) → u32_at bytes (4 * index) ≡ get_or (listed image) index 0
 slot_read image bytes index same below = rw same (sym (slot_at image index below))
 
--- ---- the directory
-
+-- the directory
 pub no_directory : (image : List ℕ) → HeapAccepted image → directory_of image ≡ 0 → directory_bytes image ≡ []
 unfolding directory_bytes bytes_under
 no_directory image heap e = rw e (ap bytes_of (held-zero image heap))

@@ -11,9 +11,7 @@ use Rattle.palm_store.specs.declared.opening.EntryKind.{EntryKind}
 use Rattle.palm_store.specs.declared.opening.EntryKind.TheVariants.{Records, Resources}
 use Rattle.palm_store.proofs.TwoChanges.{is_there}
 
--- ---- the database
-
--- the database of a number, which is whole
+-- the database: the database of a number, which is whole
 pub record Here (image : List ℕ) (db : ℕ) : Type 0 where
   pub one : StoredDatabase
   pub found : with_number (store_of image) db ≡ Some one
@@ -47,8 +45,7 @@ entry_is image db index entry h e = sym (ap (λ (x : Option StoredDatabase). sli
 pub of_all : (P : Entry ℕ → Type 0) (all : List (Entry ℕ)) (index : ℕ) (entry : Entry ℕ) → ((k : ℕ) (d : Entry ℕ) → k < length all → P (get_or all k d)) → slice_get all index ≡ Some entry → P entry
 of_all P all index entry each e = rw (get_or_from_slice_get all index entry entry e) at (each index entry (slice_get_within all index entry e))
 
--- ---- the entry
-
+-- the entry
 pub fits : (image : List ℕ) (db : Db) (resources : Bool) (index : ℕ) (entry : Entry ℕ) → Accepted image → IsSome (with_number (store_of image) db.0) → resources_under (store_of image) db ≡ resources → entry_under (store_of image) db index ≡ Some entry → EntryFits resources entry
 fits image db resources index entry a has kind e =
     let h = here image db.0 a has in
@@ -73,8 +70,7 @@ told_kind image db kind index told a has is tells = by kind told (entry_under (s
   by Resources (entries.Record info) (Some (a_resource type id slot)) fit e p = p
   by Resources (entries.Resource info) (Some entry) fit e p = tt
 
--- ---- what is told of entries of one kind
-
+-- what is told of entries of one kind
 pub records_told : (entry : heard.Entry) → IsOfKind Records entry → is_some (record_told entry) ≡ true
 records_told (entries.Record info) of = refl
 records_told (entries.Resource info) of = absurd of

@@ -12,8 +12,7 @@ pub found_or_none : (entries : List (Entry ℕ)) (P : Entry ℕ → Type 0) (fou
 found_or_none entries P None result e is none = (λ there. (let nothing : result ≡ false = e in absurd cc), λ some. absurd (none some.0 (omega arith) some.1))
 found_or_none entries P (Some index) result e is none = (λ there. (index, is), λ some. e)
 
--- ---- a database that is read
-
+-- a database that is read
 pub entries_read : (image : List ℕ) (db : Db) (database : Database ℕ) → HasDatabase image db.0 database → entries_in (store_of image) db ≡ database.entries
 entries_read image db database is = ap entries_of is
 
@@ -23,8 +22,7 @@ number_read image db database is = subst (λ (x : Option StoredDatabase). IsSome
 pub kind_read : (image : List ℕ) (db : Db) (database : Database ℕ) → HasDatabase image db.0 database → resources_under (store_of image) db ≡ has_resources database.header.attributes
 kind_read image db database is = ap holds_resources is
 
--- ---- entries counted
-
+-- entries counted
 pub counted_more : (test : Entry ℕ → Bool) (entries : List (Entry ℕ)) (index : ℕ) (entry : Entry ℕ) → slice_get entries index ≡ Some entry → test entry ≡ true → count_by test (take (index + 1) entries) ≡ count_by test (take index entries) + 1
 counted_more test entries index entry at is =
     count_by_more_yes test entries index entry (slice_get_within entries index entry at) (ap test (get_or_from_slice_get entries index entry entry at) ∙ is)

@@ -1,11 +1,9 @@
--- What several calls leave, one after the other: one that writes a database anew, and those that
--- change what one other name stands for.
+-- What calls leave in turn: one writes a database anew, others change what one name stands for.
 use Rattle.palm_store.proofs.Words.{◌≡◌, ◌≢◌, ℕ, Bool, true, false, List, [], Option, Some, None, refl, sym, ap, ◌∙◌, arith, inl, inr, cases_eq, All-nil, All-cons, IsSome, All, is_some, ◌==◌, if◌then◌else◌, HeapAccepted, LiveChunk, ChunkMap, held, Still, updated, changed, changed_at, gone, Database, spelled, database_in, Leaves, Respells, rewritten, database_here, MakesNone, none_some, same_frame, frame_then, held-zero, bytes_like, Change, one_change, edited, changed_or_kept}
 use Rattle.laws_store.proofs.Edited.{here as updated_here, apart as updated_apart}
 use Rattle.palm_store.proofs.Maps.{name_now, others_now}
 
--- ---- what names stand for
-
+-- what names stand for
 abbrev pub with_bytes : List ℕ → LiveChunk → LiveChunk
 with_bytes bytes live = record live { bytes = bytes }
 
@@ -15,8 +13,7 @@ rewritten_here map db bytes = updated_here map db (changed (with_bytes bytes) (m
 pub rewritten_apart : (map : ChunkMap) (db other : ℕ) (bytes : List ℕ) → other ≢ db → rewritten map db bytes other ≡ map other
 rewritten_apart map db other bytes ne = updated_apart map db (changed (with_bytes bytes) (map db)) other ne
 
--- ---- what stays
-
+-- what stays
 pub no_chunk : (o : Option LiveChunk) → o ≡ None → IsSome o → ⊥
 no_chunk o none some = let no : IsSome {T = LiveChunk} None = rw none at some in absurd cc
 
@@ -53,8 +50,7 @@ still_after old mid new keeps first second name live e locked there =
     let same = kept.2 in
     second name kept.0 kept.1 (omega arith) there ∙ first name live e locked (ap is_some kept.1)
 
--- ---- and then a chunk
-
+-- and then a chunk
 pub then_changed : (old mid new : List ℕ) (map : ChunkMap) (name : ℕ) (now : Option LiveChunk) → KeepsChunks old mid → Leaves old mid map → Leaves mid new (updated (held mid) name now) → Leaves old new (updated map name now)
 then_changed old mid new map name now keeps first second = record {
   map = λ other. second.map other ∙ ap (λ (o : Option LiveChunk). if other == name then now else o) (first.map other);
@@ -74,9 +70,7 @@ then_again {old} {mid} {new} name one two keeps first second =
 pub respelled_then : (old mid new : List ℕ) (db name : ℕ) (d : Database ℕ) (now : Option LiveChunk) → Respells old mid db d → Leaves mid new (updated (held mid) name now) → Leaves old new (edited (held old) db (spelled d) (one_change name now))
 respelled_then old mid new db name d now first second = then_changed old mid new (rewritten (held old) db (spelled d)) name now (respelled_keeps old mid db d first) first second
 
--- ---- a chunk made, and then a database written anew
-
--- two names that changed
+-- a chunk made, and then a database written anew: two names that changed
 swapped : (map : ChunkMap) (a b : ℕ) (x y : Option LiveChunk) → a ≢ b → (name : ℕ) → updated (updated map a x) b y name ≡ updated (updated map b y) a x name
 swapped map a b x y ne name = elim (cases_eq name a) [
   | inl e ↦ updated_apart (updated map a x) b y name (λ f. ne (sym e ∙ f)) ∙ updated_here map a x name e ∙ sym (updated_here (updated map b y) a x name e)
@@ -94,8 +88,7 @@ then_respelled old mid new db name d now ne fresh first second =
       still = both.still;
     }
 
--- ---- no name is new
-
+-- no name is new
 pub none_made : (old new : List ℕ) (db : ℕ) (bytes : List ℕ) (changes : List Change) → Leaves old new (edited (held old) db bytes changes) → IsSome (held old db) → All (λ one. IsSome one.now → IsSome (held old one.name)) changes → MakesNone old new
 none_made old new db bytes changes l there each other some = elim (changed_or_kept (λ one. IsSome one.now → IsSome (held old one.name)) (rewritten (held old) db bytes) (held old) changes other each) [
   | inl c ↦ rw c.is (c.holds (rw (l.map other ∙ c.now) at some))

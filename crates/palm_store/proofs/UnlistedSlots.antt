@@ -1,5 +1,4 @@
--- A slot taken out of the directory: the bytes of those after it slide to the front, and the chunk
--- shrinks.
+-- A slot is taken out of the directory: later bytes slide to the front, and the chunk shrinks.
 use Rattle.palm_store.proofs.Words.{◌≡◌, ℕ, ◌+◌, ◌-◌, ◌*◌, ◌<◌, ◌≤◌, List, ◌++◌, length, take, drop, Some, Result, Ok, Err, refl, sym, ap, ◌∙◌, arith, length-take, length-drop, slice_range, IfErr, IsOk, overwritten, sized_to, need, HeapAccepted, directory_of, Memory, IsLent, LiveChunk, held, put, sized, Leaves, bytes_under, directory_bytes, FirstBrings, growth_checks, Refusal, managers_loose, closed_up, Unlists}
 use Rattle.laws_heap.proofs.Frames.{length-overwritten}
 use Rattle.palm_store.proofs.Maps.{bytes_held, others_now}

@@ -1,5 +1,4 @@
--- A header and its entries, written one after the other into a chunk of the manager's that has room
--- for them.
+-- A header and its entries are written one after the other into a chunk with room for them.
 use Rattle.palm_store.proofs.Words.{◌≡◌, ℕ, zero, suc, ◌+◌, ◌*◌, ◌<◌, ◌≤◌, Bool, true, false, List, [], ◌∷◌, ◌++◌, length, get_or, take, drop, Option, Some, None, refl, sym, ap, subst, ◌∙◌, append_assoc, arith, length-append, length-take, length-drop, inl, inr, take-append_seam, cases_eq, flat_map-append, append-nil, get_or-drop, take-append-drop, take_more, take_all, drop_all, drop_at, drop-drop, All-nil, All-cons, All-append, if◌then◌else◌, All, flat_map, overwritten, HeapAccepted, LiveChunk, held, updated, changed, changed_at, put, Leaves, rewritten, entry_size, Entry, Database, DatabaseHeader, IsDatabaseName, has_resources, header_bytes, entry_bytes, spelled, empty_database, EntryFits, DatabaseFits, entry_offset, bytes_of, bytes_under, owner_under, DbInfo, Name, DbHeader, header_values, IsHeaderOf, WritesHeader, same_frame, length-entry_bytes, length-entries, offset_below, WholeEntry, header_asked, entry_named, entries_named, whole_database, numbers_in}
 use Rattle.std.specs.Prelude.{◌^◌}
 use Rattle.laws_store.proofs.Edited.{here as updated_here, apart as updated_apart}
@@ -8,9 +7,7 @@ use Rattle.palm_store.proofs.Maps.{name_now, chunk_now, owner_held, bytes_held, 
 use Rattle.palm_store.proofs.TwoSteps.{with_bytes, changed_keeps, then_again}
 use Rattle.palm_store.proofs.Creation.{empty_fits}
 
--- ---- bytes on the way
-
--- the header, and the entries before an index
+-- bytes on the way: the header, and the entries before an index
 abbrev front_of : List ℕ → List (Entry ℕ) → ℕ → List ℕ
 front_of body es index = take 78 body ++ flat_map entry_bytes (take index es)
 
@@ -67,9 +64,7 @@ so_far_more body resources es index e header below fits there fit =
     ∙ sym (append_assoc (front_of body es index) (entry_bytes e) (drop (entry_offset resources (index + 1)) body))
     ∙ ap (λ (xs : List ℕ). xs ++ drop (entry_offset resources (index + 1)) body) (grown body es index e below there)
 
--- ---- the chunk that has them
-
--- nothing is written yet
+-- the chunk that has them: nothing is written yet
 none_written : (image : List ℕ) (slot : ℕ) (bytes : List ℕ) → HeapAccepted image → bytes ≡ bytes_under image slot → Leaves image image (rewritten (held image) slot bytes)
 unfolding bytes_under
 none_written image slot bytes h is = record {
@@ -108,9 +103,7 @@ body_now old new slot bytes own l =
     let now = chunk_now slot (with_bytes bytes) l o.there in
     record { bytes_are = bytes_held new slot (record o.live { bytes = bytes }) now; owner = owner_held new slot (record o.live { bytes = bytes }) now ∙ o.own }
 
--- ---- the entries
-
--- the entries before an index are written after the header
+-- the entries: the entries before an index are written after the header
 pub record Writes (old new : List ℕ) (slot : ℕ) (resources : Bool) (entries : List WholeEntry) (names : List ℕ) (index : ℕ) : Type 0 where
   pub leaves : Leaves old new (rewritten (held old) slot (so_far (bytes_under old slot) resources (entries_named entries (drop 2 names)) index))
   pub fits : All (EntryFits resources) (take index (entries_named entries (drop 2 names)))
@@ -190,9 +183,7 @@ writes_fits old new slot resources entries names index w is =
     let many = length-named entries (drop 2 names) in
     rw (take_all index (entries_named entries (drop 2 names)) (omega (arith, many, is))) at w.fits
 
--- ---- the header
-
--- the header is written over the front of the chunk
+-- the header: the header is written over the front of the chunk
 pub record PutsFront (old new : List ℕ) (slot : ℕ) (header : List ℕ) : Type 0 where
   pub leaves : Leaves old new (rewritten (held old) slot (overwritten (bytes_under old slot) 0 header))
   pub body : HasBody new slot (overwritten (bytes_under old slot) 0 header)
@@ -230,8 +221,7 @@ pub whole_spelled : (info : DbInfo) (entries : List WholeEntry) (names : List �
 unfolding spelled
 whole_spelled info entries names = refl
 
--- ---- it can be spelled
-
+-- it can be spelled
 bit_says : (resources : Bool) → has_resources (if resources then 1 else 0) ≡ resources
 bit_says false = refl
 bit_says true = refl

@@ -38,8 +38,7 @@ same_part old mid h k stretches = elim (cases_eq (directory_of old) 0) [
       rw (k.word, ne_eqb (directory_of old) 0 some, stretch, bytes) refl
 ]
 
--- ---- why there was no room
-
+-- why there was no room
 pub no_listing_part : (image : List ℕ) → HeapAccepted image → HasNoRoomToList image → RunsOut image (listing_slots image) (listing_part image ∷ [])
 no_listing_part image h lacks = elim lacks [
   | inl begins ↦ rw (eq-eqb (directory_of image) 0 begins.0) (elim begins.1 [ inl slots ↦ inl (omega arith) | inr short ↦ inr (inl short) ])
@@ -81,8 +80,7 @@ no_listing old mid slot h m lowers lacks =
       | inr some ↦ (let some_is = ne_eqb (directory_of old) 0 some in rw some_is (rw some_is at runs))
     ]
 
--- ---- all of it is made and listed
-
+-- all of it is made and listed
 pub listed_whole : (old mid new : List ℕ) (slot size : ℕ) (sizes : List (Option ℕ)) (names : List ℕ) → HeapAccepted old → MakesNew old mid slot size 0 → MakesAndLists mid new slot sizes names → ListsWhole old new slot (replicate size 0) sizes names
 listed_whole old mid new slot size sizes names h m both =
     let filled : List ℕ = both.mid in
@@ -170,8 +168,7 @@ locked_kept old mid slot bytes sizes names h l name live e locked =
     (λ some. elim (cases_eq (times name names) 0) [
       | inl none ↦ none
       | inr more ↦ absurd (none_some (held old name) live (gained (held old) (held mid) sizes names l.each name some (omega arith)).fresh e)
-    ])
-    ∙ e
+    ]) ∙ e
 
 pub whole_written : (old mid new : List ℕ) (slot : ℕ) (before bytes : List ℕ) (sizes : List (Option ℕ)) (names : List ℕ) → HeapAccepted old → ListsWhole old mid slot before sizes names → Leaves mid new (rewritten (held mid) slot bytes) → ListsWhole old new slot bytes sizes names
 whole_written old mid new slot before bytes sizes names h l w =

@@ -1,5 +1,4 @@
--- A whole database that was made is a step of the store: it comes after the others, and its data to
--- the map.
+-- A whole database that was made is a step of the store: it comes last, with its data.
 use Rattle.palm_store.proofs.Words.{◌≡◌, ◌≢◌, ℕ, ◌+◌, ◌<◌, Bool, List, [], ◌∷◌, ◌++◌, length, map, drop, Some, None, refl, ap, ◌∙◌, arith, inl, inr, All-nil, All-cons, All-head, All-tail, All, AllZip, filter_map, ChunkMap, held, times, callers_map, data_in, entry_data, spelled, has_resources, DatabaseFits, entry_offset, StoredDatabase, databases, most_databases, unique_id, HasUniqueIds, Accepted, store_of, NamesData, IsTaken, DbInfo, Appends, has_databases, has_store, BlockSizes, WholeEntry, size_of_data, data_sizes, CanCome, id_asked, CanBeWhole, entries_named, whole_database, whole_size, IsGained, MakesWhole, ListsWhole}
 use Rattle.laws_store.proofs.Listed as listed
 use Rattle.palm_store.specs.WholeDatabases.{entry_named}
@@ -7,8 +6,7 @@ use Rattle.palm_store.specs.declared.entries.infos.EntryInfo.TheVariants as info
 use Rattle.palm_store.proofs.Creation.{appends_gained, callers_gain}
 pub use Rattle.palm_store.proofs.Creation.{few_listed}
 
--- ---- what the database has data for
-
+-- what the database has data for
 named_entries : (entries : List WholeEntry) (names : List ℕ) → length names ≡ length entries → map entry_data (entries_named entries names) ≡ names
 named_entries [] [] long = refl
 named_entries [] (name ∷ names) long = absurd (omega arith)
@@ -39,8 +37,7 @@ whole_names_data old new info blocks entries [] zip can = absurd zip
 whole_names_data old new info blocks entries (one ∷ []) zip can = absurd zip.1
 whole_names_data old new info blocks entries (one ∷ two ∷ names) zip can = names_data old new (has_resources info.attributes) entries names zip.1.1 can.each
 
--- ---- unique IDs
-
+-- unique IDs
 same_ids : (entries : List WholeEntry) (names : List ℕ) → filter_map unique_id (entries_named entries names) ≡ filter_map id_asked entries
 same_ids [] names = refl
 same_ids ((infos.Record attributes id, size) ∷ entries) [] = ap (λ (ids : List ℕ). id ∷ ids) (same_ids entries [])
@@ -59,8 +56,7 @@ whole_ids info entries names can =
     let ids = same_ids entries (drop 2 names) in
     record { none_zero = rw ids (ids_some (has_resources info.attributes) entries can.each); distinct = rw ids can.ids }
 
--- ---- it comes after the others
-
+-- it comes after the others
 abbrev stored : ℕ → DbInfo → List WholeEntry → List ℕ → StoredDatabase
 stored db info entries names = record { db = db; database = whole_database info entries names }
 
@@ -70,8 +66,7 @@ appends_whole old new db info blocks entries names a l fits can many few free =
     appends_gained old new (stored db info entries names) (data_sizes blocks entries) names a l fits (whole_names_data (held old) (held new) info blocks entries names l.each can) (whole_ids info entries names can)
     (λ q some. ap (times q) (whole_data info entries names many)) few free
 
--- ---- the step
-
+-- the step
 pub whole_made : (old new : List ℕ) (db : ℕ) (info : DbInfo) (blocks : BlockSizes) (entries : List WholeEntry) (names : List ℕ) → Accepted old → ListsWhole old new db (spelled (whole_database info entries names)) (data_sizes blocks entries) names
     → DatabaseFits (whole_database info entries names) → CanBeWhole info entries → length names ≡ 2 + length entries → length (databases old) < most_databases → (IsTaken (store_of old) 0 info.name → ⊥) → MakesWhole old new db info blocks entries names
 unfolding store_of
@@ -92,7 +87,6 @@ whole_made old new db info blocks entries names a l fits can many few free =
       still = l.still;
     }
 
--- ---- what the call has found
-
+-- what the call has found
 pub size_asked : (info : DbInfo) (entries : List WholeEntry) (resources : Bool) (size : ℕ) → resources ≡ has_resources info.attributes → info.entry_count ≡ length entries → size ≡ entry_offset resources info.entry_count → size ≡ whole_size info entries
 size_asked info entries resources size kind count is = is ∙ ap (λ (r : Bool). entry_offset r info.entry_count) kind ∙ ap (λ (n : ℕ). entry_offset (has_resources info.attributes) n) count

@@ -1,3 +1,4 @@
+-- Each test finds the refusal for a name that can't be taken, or there is none.
 use Rattle.palm_store.proofs.GivenChunks.{unknown_why, managers_why, data_why, fixed_why, giving_could, giving_may}
 use Rattle.std.proofs.Common.{◌∙◌, sym}
 use Rattle.palm_store.proofs.chunks.check_taken.Goals as goal

@@ -1,3 +1,4 @@
+-- The slot 0 has no chunk to free; any other has one that is no part of the directory.
 use Rattle.palm_store.proofs.TwoSteps.{none_freed}
 use Rattle.std.proofs.Common.{arith}
 use Rattle.palm_store.proofs.Loans.{unlocked_here}

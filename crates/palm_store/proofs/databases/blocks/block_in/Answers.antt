@@ -1,3 +1,4 @@
+-- The slot is that of the info block that was asked for.
 use Rattle.std.proofs.Common.{inl, inr}
 use Rattle.palm_store.proofs.InfoBlocks.{block_read}
 use Rattle.palm_store.proofs.databases.blocks.block_in.Goals as goal

@@ -1,5 +1,4 @@
--- The header is as it was, so the next slot is that of the database that was given; its chunk is
--- still there.
+-- The header is as it was, so the next slot is the given database's; its chunk is still there.
 use Rattle.palm_store.proofs.Laws.{◌+◌, refl, sym, subst, ◌∙◌, ◌≡◌, ◌<◌, ℕ, List, length, IsSpelled, database_in, data_in, stands_still, keeps_itself, writes_then, number_spelled, freed_none, freed_one, freed_next, named_at, header_held, header_owner, header_like, slot_left, slot_other, managers_here}
 use Rattle.palm_store.proofs.NamedChunks.{slot_unlocked}
 use Rattle.palm_store.proofs.databases.clearing.free_data.Goals as goal

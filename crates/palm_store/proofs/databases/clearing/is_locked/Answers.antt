@@ -1,3 +1,4 @@
+-- The slot 0 has no chunk, so none that is locked.
 use Rattle.palm_store.proofs.Words.{refl, ap, ◌∙◌, subst, false, both_ways, LiveChunk, Of, IsLocked, held, held-zero}
 use Rattle.std.specs.Prelude.{Option}
 use Rattle.palm_store.proofs.databases.clearing.is_locked.Goals as goal

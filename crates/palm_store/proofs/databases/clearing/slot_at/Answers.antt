@@ -1,3 +1,4 @@
+-- The slot is the one at the index, among those that the database has.
 use Rattle.palm_store.proofs.Laws.{sym, ◌∙◌, ◌-◌, ◌≤◌, ◌<◌, arith, entry_count_in, length-named, header_inside, entry_inside, first_named, second_named, later_named}
 use Rattle.palm_store.proofs.databases.clearing.slot_at.Goals as goal
 

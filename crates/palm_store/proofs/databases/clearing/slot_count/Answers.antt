@@ -1,3 +1,4 @@
+-- A database has two slots for info blocks, and one for each entry.
 use Rattle.std.proofs.Common.{ap, sym, ◌∙◌, ◌+◌, ℕ}
 use Rattle.palm_store.proofs.NamedChunks.{length-named, header_inside}
 use Rattle.palm_store.proofs.databases.clearing.slot_count.Goals as goal

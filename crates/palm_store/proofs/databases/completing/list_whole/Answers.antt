@@ -1,5 +1,4 @@
--- The header's chunk is made, then the data, and then the slot is listed; or all of it is freed
--- again.
+-- The header's chunk is made, the data, and the slot is listed; or all of it is freed again.
 use Rattle.palm_store.proofs.Laws.{refl, sym, subst, ◌≤◌, ◌∙◌, List, length, ℕ, rules, data_sizes, numbers_in, keeps_then, few_bytes, made_directory, made_movable, fresh_apart, no_rest_room, listed_whole, made_here, owned_here}
 use Rattle.palm_store.proofs.databases.completing.list_whole.Goals as goal
 

@@ -31,5 +31,4 @@ returns-in-Err-clause-kept c =
     slides_then _ _ _ made (none_slid _ _ c.free_named.ensures.kept)
 
 pub returns-clause-kept : goal.returns-clause-kept
-returns-clause-kept c =
-    slides_then _ _ _ c.make_data.ensures.kept c.list_last.ensures.kept
+returns-clause-kept c = slides_then _ _ _ c.make_data.ensures.kept c.list_last.ensures.kept

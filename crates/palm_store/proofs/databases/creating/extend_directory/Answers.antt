@@ -1,5 +1,4 @@
--- The directory has no lock, so that only lack of room keeps it from growing; the slot's bytes are
--- written over the last four.
+-- Only lack of room keeps the directory from growing; the slot is written over its last bytes.
 use Rattle.palm_store.proofs.Laws.{refl, ap, arith, ◌≡◌, ◌+◌, length, rules, need, directory_of, ShortFor, directory_bytes, NotEnoughSpace, managers_loose, if_err, on_err, keeps_then, the_directory, directory_owned, directory_loose, loose_movable, directory_few, directory_short, grown_room, growth_short, sized_here, extended, managers_here, owned_here}
 use Rattle.palm_store.proofs.databases.creating.extend_directory.Goals as goal
 

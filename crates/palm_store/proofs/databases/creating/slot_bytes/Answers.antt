@@ -1,3 +1,4 @@
+-- The bytes are those of the slot.
 use Rattle.heap_model.specs.Bytes.{u32_bytes}
 use Rattle.palm_store.proofs.databases.creating.slot_bytes.Goals as goal
 

@@ -1,5 +1,4 @@
--- The header spells what it spelled while the chunk is made; where it can't grow, the chunk is
--- freed again.
+-- While the chunk is made the header is as it was; where it can't grow, the chunk is freed.
 use Rattle.palm_store.proofs.Laws.{◌≡◌, ◌∙◌, Some, replicate, refl, sym, subst, Memory, HeapAccepted, held, rules, accepted_spells, entries_here, kind_here, keeps_then, is_movable, data_owner, made_movable, index_most, opened_here, spells_still, database_still, made_no_directory, puts_in, no_header_room, made_chunk, loose_here}
 use Rattle.database_edits.proofs.Databases.{managers}
 use Rattle.palm_store.proofs.NewEntries.{given_back}

@@ -1,3 +1,4 @@
+-- The directory has four bytes for each database.
 use Rattle.std.proofs.Common.{arith}
 use Rattle.palm_store.proofs.lookup.directory.count_databases.Goals as goal
 

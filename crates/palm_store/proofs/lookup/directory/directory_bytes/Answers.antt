@@ -1,3 +1,4 @@
+-- The bytes are those of the directory, or none if there is no directory.
 use Rattle.palm_store.proofs.Laws.{no_directory, directory_movable, directory_read, counts, directory_here}
 use Rattle.std.proofs.Common.{[], sym, ◌∙◌}
 use Rattle.palm_store.proofs.lookup.directory.directory_bytes.Goals as goal

@@ -1,3 +1,4 @@
+-- A number that the directory lists is found at its index.
 use Rattle.palm_store.proofs.Laws.{◌≡◌, ◌≢◌, ◌*◌, ℕ, ap, ◌∙◌, arith, rules, u32_at, slot_in, slot_read, listed_at}
 use Rattle.palm_store.proofs.lookup.directory.index_of.Goals as goal
 

@@ -1,3 +1,4 @@
+-- A chunk of the manager that is not the directory is that of a database.
 use Rattle.std.proofs.Common.{sym, ◌∙◌}
 use Rattle.palm_store.proofs.Numbers.{number_slot, slot_number, number_movable, no_number, none_owner}
 use Rattle.palm_store.proofs.lookup.header.find_chunk.Goals as goal

@@ -3,8 +3,7 @@ use Rattle.palm_store.proofs.Laws.{number_spelled, number_shape, number_here}
 use Rattle.palm_store.proofs.lookup.header.header_in.Goals as goal
 
 pub sys_body_found-requires-clause-here : goal.sys_body_found-requires-clause-here
-sys_body_found-requires-clause-here c =
-    number_here _ _ c.requires.accepted c.requires.opened.number
+sys_body_found-requires-clause-here c = number_here _ _ c.requires.accepted c.requires.opened.number
 
 pub returns : goal.returns
 returns c =

@@ -1,3 +1,4 @@
+-- The chunk of a database is a movable one.
 use Rattle.palm_store.proofs.Numbers.{number_movable}
 use Rattle.palm_store.proofs.lookup.header.opened_of.Goals as goal
 

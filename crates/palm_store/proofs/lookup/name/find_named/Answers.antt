@@ -1,3 +1,4 @@
+-- The directory is searched in its order; if no database is found, none has the name.
 use Rattle.palm_store.proofs.Laws.{sym, ap, ◌∙◌, arith, rules, name_under, number_in, slot_read}
 use Rattle.palm_store.proofs.Lookups.{not_taken}
 use Rattle.palm_store.proofs.lookup.name.find_named.Goals as goal

@@ -1,3 +1,4 @@
+-- The result says whether a database was found.
 use Rattle.palm_store.proofs.Lookups.{other_taken}
 use Rattle.palm_store.proofs.lookup.name.has_other_name.Goals as goal
 

@@ -1,3 +1,4 @@
+-- The call does the step of the memory manager, on the store's heap.
 use Rattle.palm_store.proofs.MemoryCalls.{forwarded, kept}
 use Rattle.palm_store.proofs.store.Store.compact.Goals as goal
 

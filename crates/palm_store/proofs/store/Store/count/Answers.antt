@@ -1,3 +1,4 @@
+-- The call does the step of the store.
 use Rattle.palm_store.proofs.Laws.{ask_viewed, counted}
 use Rattle.palm_store.proofs.store.Store.count.Goals as goal
 

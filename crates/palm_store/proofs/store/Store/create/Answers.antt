@@ -1,5 +1,4 @@
--- What was found of the name and of the databases lets the call go on; the header is written into
--- the chunk that was listed, or all is as before.
+-- The name is new and there is room for a database: its header is written, or nothing changed.
 use Rattle.palm_store.proofs.Laws.{refl, ap, sym, subst, ◌∙◌, ◌≡◌, ◌<◌, ◌≤◌, arith, ℕ, List, length, replicate, length-replicate, header_size, Database, IsDatabaseName, DatabaseFits, header_bytes, spelled, listed, most_databases, store_of, IsTaken, empty_database, Create, handed_on, length-header_bytes, ListsNew, keeps_then, bytes_held, chunk_of, loose_movable, not_taken, not_named, name_taken, too_many, header_put, created, not_created, empty_fits, header_spells, viewed, ask_viewed, nothing_known, then_written, owned_here}
 use Rattle.heap_model.specs.declared.call.Call.TheVariants as calls
 use Rattle.heap_model.specs.declared.call.Reply.TheVariants as replies

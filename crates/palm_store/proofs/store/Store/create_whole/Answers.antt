@@ -1,5 +1,4 @@
--- What was found of the name and of the databases lets the call go on; all is made and written, or
--- all is as before.
+-- The name is new and there is room for a database: all is made and written, or nothing changed.
 use Rattle.palm_store.proofs.Laws.{refl, ap, subst, ◌∙◌, ◌<◌, ◌≤◌, inl, inr, ℕ, List, length, replicate, length-replicate, length-map, FirstBrings, spelled, listed, most_databases, store_of, IsTaken, Name, on_err, if_err, same_steps, whole_parts, whole_slots, data_sizes, numbers_in, whole_database, RunsOut, MakesWhole, checks_of_whole, slides_then, none_slid, bytes_held, owner_held, chunk_of, not_taken, below_most, most_there, left_as_before, whole_written, nothing_known}
 use Rattle.palm_store.proofs.WholeSteps.{whole_made, few_listed, size_asked}
 use Rattle.palm_store.proofs.store.Store.create_whole.Goals as goal

@@ -1,3 +1,4 @@
+-- The bytes are those of the database of the number.
 use Rattle.std.proofs.Common.{Result, Ok, Err, refl}
 use Rattle.std.specs.Prelude.{IfOk, IfSome, OnOk}
 use Rattle.std.specs.Result.{result_ok}

@@ -1,3 +1,4 @@
+-- The view is that of the open database.
 use Rattle.palm_store.proofs.EntriesHere.{read_here}
 use Rattle.palm_store.proofs.OpenedHere.{opened_in}
 use Rattle.palm_store.proofs.store.Store.database_in.Goals as goal

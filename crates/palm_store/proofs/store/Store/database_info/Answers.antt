@@ -1,3 +1,4 @@
+-- The call does the step of the store.
 use Rattle.palm_store.proofs.Laws.{ℕ, List, ap, ◌∙◌, database_in, info_of, told}
 use Rattle.palm_store.proofs.store.Store.database_info.Goals as goal
 

@@ -1,5 +1,4 @@
--- What came is the entry that was asked for, with the chunk that was given; what was refused has
--- changed nothing.
+-- The new entry is the one asked for, with the given chunk; a refusal has changed nothing.
 use Rattle.palm_store.proofs.Laws.{◌<◌, ◌∙◌, arith, inl, inr, ℕ, List, length, ◌≤◌, ◌≡◌, most_entries, entries_in, resources_under, store_of, FirstBrings, entry_of, Entry, entry_with, IsOpened, KnownIds, makes_resource, MayBeGiven, checks_of_attaching, if_err, come_free, beside_named, attach_leaves, attach_steps}
 use Rattle.palm_store.proofs.OpenedHere.{opened_in}
 use Rattle.palm_store.proofs.store.Store.entry_attach.Goals as goal

@@ -29,5 +29,4 @@ returns c =
     }
 
 pub invariant_of-self : goal.invariant_of-self
-invariant_of-self c =
-    still_store (returns c).filled refl (rw (← c.self.view_is) c.self.invariant)
+invariant_of-self c = still_store (returns c).filled refl (rw (← c.self.view_is) c.self.invariant)

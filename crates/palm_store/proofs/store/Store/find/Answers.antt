@@ -1,3 +1,4 @@
+-- The call does the step of the store.
 use Rattle.palm_store.proofs.Laws.{ask_viewed, answered}
 use Rattle.palm_store.proofs.store.Store.find.Goals as goal
 

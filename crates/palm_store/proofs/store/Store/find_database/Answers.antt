@@ -1,3 +1,4 @@
+-- The view is that of the database of the number.
 use Rattle.palm_store.proofs.EntriesHere.{read_here}
 use Rattle.palm_store.proofs.store.Store.find_database.Goals as goal
 

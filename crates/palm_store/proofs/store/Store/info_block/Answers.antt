@@ -1,3 +1,4 @@
+-- The block of the header that was found is that of the store, or there is none.
 use Rattle.palm_store.proofs.Laws.{◌≡◌, ℕ, List, sym, ap, ◌∙◌, database_in, info_block, info_block_under, store_of, ask_viewed, block_here, known_number, no_block_there, block_told}
 use Rattle.palm_store.proofs.store.Store.info_block.Goals as goal
 

@@ -1,3 +1,4 @@
+-- The call does the step of the memory manager, on the store's heap.
 use Rattle.palm_store.proofs.MemoryCalls.{asked}
 use Rattle.palm_store.proofs.store.Store.largest_stretch.Goals as goal
 

@@ -1,3 +1,4 @@
+-- Whether data is lent is the same of the store as of the heap inside.
 use Rattle.palm_store.proofs.Words.{subst, ◌↔◌, IsTrue, Any, Memory, IsLent, Db, named_under}
 use Rattle.palm_store.proofs.store.Store.lends_data.Goals as goal
 

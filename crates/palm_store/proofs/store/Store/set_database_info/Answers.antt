@@ -1,5 +1,4 @@
--- What was found of the database and of the name, and what was written, is what a header that is
--- set has.
+-- The database, the name and what was written are those of a header that is set.
 use Rattle.palm_store.proofs.Laws.{ℕ, List, refl, subst, inl, inr, IsDatabaseName, IsSpelled, database_in, overwritten, store_of, IsTaken, refused, known_number, viewed, ask_viewed, not_taken, nothing_known, number_here}
 use Rattle.palm_store.proofs.HeaderInfos.{with_info, set_spelled, set_step}
 use Rattle.palm_store.proofs.store.Store.set_database_info.Goals as goal

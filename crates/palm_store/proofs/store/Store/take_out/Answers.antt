@@ -1,3 +1,4 @@
+-- The loan is one of the store, and the databases are as they were.
 use Rattle.palm_store.proofs.Loans.{takes_out, takes_replied}
 use Rattle.palm_store.proofs.store.Store.take_out.Goals as goal
 

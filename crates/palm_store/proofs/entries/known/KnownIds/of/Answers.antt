@@ -1,3 +1,4 @@
+-- IDs that are known of one database are known of another of the same number.
 use Rattle.palm_store.proofs.Laws.{ap, ◌∙◌, arith, times, same_number}
 use Rattle.palm_store.proofs.entries.known.KnownIds.of.Goals as goal
 

@@ -1,3 +1,4 @@
+-- The IDs that are left are free, and the given one is none of them.
 use Rattle.palm_store.proofs.KnownIds.{left_free, left_gets}
 use Rattle.palm_store.proofs.entries.known.KnownIds.without.Goals as goal
 
