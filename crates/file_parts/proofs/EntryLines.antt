@@ -1,5 +1,5 @@
 -- The lines of the entries, one after the other.
-use Rattle.file_parts.proofs.AllWords.{◌≡◌, ℕ, ◌+◌, ◌/◌, ◌%◌, ◌<◌, ◌≤◌, Option, List, [], ◌∷◌, ◌++◌, length, get_or, drop, refl, sym, ap, ◌∙◌, arith, add-one, drop-cons, append_assoc, drop_all, codes, decimal, Entry, a_record, a_resource, entry_data, entry_count_in, entry_with, bytes_at, Block, entry_read_at, entries_read, length-entries_read, entry_read_is, name_if_data, entry_name, named_entries, entry_lines, part_text, entry_values, entry_line, line_at, Blob}
+use Rattle.file_parts.proofs.AllWords.{◌≡◌, ℕ, ◌+◌, ◌/◌, ◌%◌, ◌<◌, ◌≤◌, Option, List, [], ◌∷◌, ◌++◌, length, get_or, drop, refl, ap, ◌∙◌, arith, add-one, drop-cons, append_assoc, drop_all, codes, decimal, Entry, a_record, a_resource, entry_data, entry_count_in, entry_with, bytes_at, Block, entry_read_at, entries_read, length-entries_read, entry_read_is, name_if_data, entry_name, named_entries, entry_lines, part_text, entry_values, entry_line, line_at, Blob}
 use Rattle.std.specs.Prelude.{Some}
 
 -- the lines from an index on

@@ -1,5 +1,5 @@
 -- The blocks of a file in their order are the rest of the file, and begin at its offsets.
-use Rattle.file_parts.proofs.AllWords.{◌≡◌, ℕ, zero, suc, ◌+◌, ◌-◌, ◌^◌, ◌<◌, ◌≤◌, Bool, true, false, Option, Some, None, List, [], ◌∷◌, ◌++◌, length, get_or, drop, map, refl, sym, ap, subst, ◌∙◌, arith, inl, inr, add-one, drop-cons, ◌⊎◌, ◌==◌, min, nat_lt, filter, slice_index, slice_range, flat_map, fold, cases_eq, cases_lt, lt-ltb, ltb-true, length-map, length-drop, length-take, get_or-map, get_or_past, drop_all, drop-drop, take-append-drop, filter_passes, get_or-map-range_with_len, HasNoFault, blocks_in, offsets_in, block_at, block_bytes, block_end, block_size, start_of, begins, first_start, none, AreSorted, items_are, ranks_apart, start_found, begins_inside, sorted_end, block_there, IsOrderOf, offset_among, Blob, cases_Bool}
+use Rattle.file_parts.proofs.AllWords.{◌≡◌, ℕ, zero, suc, ◌+◌, ◌-◌, ◌^◌, ◌<◌, ◌≤◌, Bool, true, false, Some, None, List, [], ◌∷◌, ◌++◌, length, get_or, drop, map, refl, sym, ap, subst, ◌∙◌, arith, inl, inr, add-one, drop-cons, ◌⊎◌, ◌==◌, min, nat_lt, filter, slice_index, slice_range, flat_map, fold, cases_eq, cases_lt, lt-ltb, ltb-true, length-map, length-drop, length-take, get_or-map, get_or_past, drop_all, drop-drop, take-append-drop, filter_passes, get_or-map-range_with_len, HasNoFault, blocks_in, offsets_in, block_at, block_bytes, block_end, block_size, start_of, begins, first_start, none, AreSorted, items_are, ranks_apart, start_found, begins_inside, sorted_end, block_there, IsOrderOf, offset_among, Blob, cases_Bool}
 use Rattle.pdb_format.proofs.PlacedBlocks.{file_sorted}
 
 -- the type of starts, which their crate doesn't name for others

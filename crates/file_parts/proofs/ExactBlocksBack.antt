@@ -1,6 +1,6 @@
 -- Blocks that come in an order, one after the other, are read back.
-use Rattle.file_parts.proofs.AllWords.{◌≡◌, ℕ, zero, suc, ◌+◌, ◌-◌, ◌*◌, ◌^◌, ◌<◌, ◌≤◌, Bool, true, false, Option, Some, None, List, [], ◌∷◌, ◌++◌, length, get_or, take, drop, map, refl, sym, ap, subst, ◌∙◌, arith, inl, inr, append_assoc, append-nil, length-append, ◌==◌, nat_lt, filter, is_some, slice_index, slice_range, flat_map, range_with_len, remove, IsPermutation, IsNonDecreasingBy, cases_eq, cases_lt, eq-eqb, ne_eqb, lt-ltb, le-ltb, drop_at, get_or-map, get_or_past, length-map, take_all, take_at, take_more, take-append-drop, flat_map-append, fill_by_all, get_or-map-range_with_len, IsPermutation-refl, IsPermutation-sym, IsPermutation-trans, IsPermutation-cons, IsPermutation-map, IsPermutation-remove, same, times, block_at, block_bytes, block_size, blocks_in, offsets_in, same-yes, same-no, times-cons, times-remove, times-some, contained-times, start_of, begins, is_block_there, order, starts_in, AreSorted, offset_among, Blob, cases_Bool, passing}
-use Rattle.file_parts.proofs.ExactBlocks.{Start, begins_past, block_here, place_of, starts_of, AreSortedIn, begin_in, at_rank}
+use Rattle.file_parts.proofs.AllWords.{◌≡◌, ℕ, zero, suc, ◌+◌, ◌-◌, ◌*◌, ◌^◌, ◌<◌, ◌≤◌, Bool, true, false, Some, None, List, [], ◌∷◌, ◌++◌, length, get_or, take, drop, map, refl, sym, ap, subst, ◌∙◌, arith, inl, inr, append_assoc, append-nil, length-append, ◌==◌, nat_lt, filter, is_some, slice_index, slice_range, flat_map, range_with_len, remove, IsPermutation, IsNonDecreasingBy, cases_eq, cases_lt, eq-eqb, ne_eqb, lt-ltb, le-ltb, drop_at, get_or-map, get_or_past, length-map, take_all, take_at, take_more, take-append-drop, flat_map-append, fill_by_all, get_or-map-range_with_len, IsPermutation-refl, IsPermutation-sym, IsPermutation-trans, IsPermutation-cons, IsPermutation-map, IsPermutation-remove, same, times, block_at, block_bytes, block_size, blocks_in, offsets_in, same-yes, same-no, times-cons, times-remove, times-some, contained-times, start_of, is_block_there, order, starts_in, offset_among, Blob, cases_Bool, passing}
+use Rattle.file_parts.proofs.ExactBlocks.{begins_past, block_here, place_of, starts_of, AreSortedIn, begin_in, at_rank}
 use Rattle.file_parts.proofs.ExactInside.{times_not, times_once}
 use Rattle.file_parts.proofs.ExactPlaces.{blocks_of}
 use Rattle.file_parts.proofs.ExactRanks.{get_or-same, not_true, rest_from, true_false}

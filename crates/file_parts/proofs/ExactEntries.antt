@@ -1,5 +1,5 @@
 -- The lines of the entries of a file as they stand, one after the other.
-use Rattle.file_parts.proofs.AllWords.{◌≡◌, ℕ, ◌+◌, ◌<◌, ◌≤◌, Option, List, [], ◌∷◌, ◌++◌, length, get_or, drop, refl, ap, ◌∙◌, arith, add-one, drop-cons, drop_all, get_or-map-range_with_len, length-map-range_with_len, numbered, Entry, entry_count_in, entry_lines, named_entries, with_names, exact_database, exact_entry, exact_entry_line, Blob}
+use Rattle.file_parts.proofs.AllWords.{◌≡◌, ℕ, ◌+◌, ◌<◌, ◌≤◌, List, [], ◌∷◌, ◌++◌, length, get_or, drop, refl, ap, ◌∙◌, arith, add-one, drop-cons, drop_all, get_or-map-range_with_len, length-map-range_with_len, numbered, Entry, entry_count_in, entry_lines, named_entries, with_names, exact_database, exact_entry, exact_entry_line, Blob}
 
 abbrev all_of : List ℕ → List (Entry Blob)
 all_of file = numbered (exact_entry file) (entry_count_in file)

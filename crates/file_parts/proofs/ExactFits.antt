@@ -1,5 +1,5 @@
 -- What a file is exactly has a text.
-use Rattle.file_parts.proofs.AllWords.{◌≡◌, ℕ, suc, ◌+◌, ◌^◌, ◌<◌, Bool, true, false, Option, None, List, length, map, get_or, refl, sym, ap, subst, ◌∙◌, arith, All, range_with_len, get_or-map, fill_by_all, get_or-map-range_with_len, length-map-range_with_len, big_from-lt, AreBytes, u24_at, Database, DatabaseHeader, Entry, a_record, a_resource, HeaderFits, IsDatabaseName, database_in, entry_at, entry_count_in, entry_data, entry_in, entry_offset, entry_with, has_resources, header_in, resources_in, HasNoFault, blocks_in, size_of_block, header_fits, IsWritableEntry, none_planned, record_block, resource_block, file_named, zip_at, zip_long, with_names, HasText, ExactFile, HasValuesOf, IsExactly, exact_database, exact_entry, Blob}
+use Rattle.file_parts.proofs.AllWords.{◌≡◌, ℕ, suc, ◌+◌, ◌^◌, ◌<◌, Bool, true, false, None, List, length, map, get_or, refl, sym, ap, subst, arith, All, range_with_len, get_or-map, fill_by_all, get_or-map-range_with_len, length-map-range_with_len, big_from-lt, AreBytes, u24_at, Database, DatabaseHeader, Entry, a_record, a_resource, HeaderFits, IsDatabaseName, database_in, entry_at, entry_count_in, entry_data, entry_in, entry_offset, entry_with, has_resources, header_in, resources_in, HasNoFault, blocks_in, size_of_block, header_fits, IsWritableEntry, none_planned, record_block, resource_block, file_named, zip_at, zip_long, with_names, HasText, ExactFile, HasValuesOf, IsExactly, exact_database, exact_entry, Blob}
 use Rattle.file_parts.proofs.PackedBack.{u16_small, u32_small}
 use Rattle.file_parts.proofs.PartsBack.{has_text_of, name_bytes}
 

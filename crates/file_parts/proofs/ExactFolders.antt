@@ -1,5 +1,5 @@
 -- A file that is taken apart as it stands is packed back.
-use Rattle.file_parts.proofs.AllWords.{◌≡◌, ℕ, zero, suc, ◌+◌, ◌≤◌, Bool, true, false, Option, Some, None, List, [], ◌∷◌, ◌++◌, length, get_or, map, refl, sym, ap, subst, ◌∙◌, arith, ◌==◌, Ok, is_some, option_map_or, ne_eqb, length-map, get_or-append_seam, AreBytes, Database, DatabaseHeader, Entry, a_record, a_resource, IsDatabaseName, data_in, entry_data, entry_with, header_in, name_in, block_bytes, offsets_in, block_count, file_named, not_truncated, offset_count, app_name, entry_name, name_if_data, named_entries, sort_name, with_names, HasText, IsPartName, part_at, ExactFile, IsExactly, after_name_of, exact_of_parts, exact_text, filler_named, order_of, text_of_exact, read_exact, Blob, cases_Bool, inl, inr}
+use Rattle.file_parts.proofs.AllWords.{◌≡◌, ℕ, zero, suc, ◌+◌, ◌≤◌, Some, None, List, [], ◌∷◌, ◌++◌, length, get_or, map, refl, sym, ap, subst, ◌∙◌, arith, ◌==◌, Ok, is_some, option_map_or, ne_eqb, length-map, get_or-append_seam, AreBytes, Database, Entry, a_record, a_resource, IsDatabaseName, data_in, entry_data, entry_with, header_in, name_in, block_bytes, offsets_in, block_count, file_named, not_truncated, offset_count, app_name, entry_name, name_if_data, named_entries, sort_name, with_names, HasText, IsPartName, part_at, ExactFile, IsExactly, exact_of_parts, exact_text, filler_named, text_of_exact, read_exact, Blob, cases_Bool, inl, inr}
 use Rattle.file_parts.specs.ExactLaws.{PacksBackExactly, exact_parts}
 use Rattle.file_parts.proofs.PackedBack.{u16_small}
 use Rattle.file_parts.proofs.PartsBack.{parts_and_more}

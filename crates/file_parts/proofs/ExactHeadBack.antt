@@ -1,5 +1,5 @@
 -- The head of a file is read back, whatever bytes come after its name and after its entries.
-use Rattle.file_parts.proofs.AllWords.{◌≡◌, ℕ, zero, suc, ◌+◌, ◌*◌, ◌<◌, ◌≤◌, Bool, true, cond, List, [], ◌∷◌, ◌++◌, length, take, refl, sym, ap, subst, ◌∙◌, arith, inl, inr, append_assoc, length-append, All, ◌⊎◌, ◌==◌, not, slice_index, concat, flat_map, take_while, ne_eqb, get_or_append_left, All-head, All-tail, take_while-cons, u16_at, u32_at, numbered, entry_size, Database, DatabaseFits, DatabaseHeader, Entry, database_in, entry_at, entry_bytes, entry_count_in, entry_in, entry_offset, fields_behind_name, has_resources, header_bytes, header_in, name_field, name_in, resources_in, spelled, entry_behind, IsHeaded, same_numbered, spelled_heads}
+use Rattle.file_parts.proofs.AllWords.{◌≡◌, ℕ, zero, suc, ◌+◌, ◌*◌, ◌<◌, ◌≤◌, Bool, true, List, [], ◌∷◌, ◌++◌, length, take, refl, sym, ap, subst, ◌∙◌, arith, inl, inr, append_assoc, length-append, All, ◌⊎◌, ◌==◌, not, slice_index, concat, flat_map, take_while, ne_eqb, get_or_append_left, All-head, All-tail, take_while-cons, u16_at, u32_at, numbered, entry_size, Database, DatabaseFits, DatabaseHeader, Entry, database_in, entry_bytes, entry_count_in, entry_in, entry_offset, fields_behind_name, has_resources, header_bytes, header_in, name_field, name_in, resources_in, spelled, entry_behind, IsHeaded, same_numbered, spelled_heads}
 use Rattle.laws_store.proofs.Names.{length-name_field}
 use Rattle.laws_store.proofs.Numbers.{big_from-behind}
 

@@ -1,5 +1,5 @@
 -- The lines of a text that only an exact folder has, and the line of an entry.
-use Rattle.file_parts.proofs.AllWords.{◌≡◌, ℕ, zero, suc, ◌-◌, ◌≤◌, Bool, true, false, cond, Option, Some, None, List, [], ◌∷◌, ◌++◌, length, take, drop, refl, sym, ap, ◌∙◌, arith, ◌==◌, codes, replicate, list_all, and_parts, length-take-le, take-append-drop, length-drop, drop-append_seam, encode_lower, Entry, a_record, a_resource, HasName, IsDatabaseName, entry_data, entry_with, name_field, name_in, filler_in, filler_line, filler_name, after_name_text, filler_text, Blob, cases_Bool, inl, inr}
+use Rattle.file_parts.proofs.AllWords.{◌≡◌, ℕ, zero, suc, ◌-◌, ◌≤◌, true, false, cond, Some, None, List, [], ◌∷◌, ◌++◌, length, take, drop, refl, ap, arith, ◌==◌, codes, replicate, list_all, and_parts, length-take-le, take-append-drop, length-drop, drop-append_seam, encode_lower, Entry, a_record, a_resource, HasName, IsDatabaseName, entry_data, entry_with, name_field, name_in, filler_in, filler_line, filler_name, after_name_text, filler_text, Blob, cases_Bool, inl, inr}
 
 abbrev after_of : List ℕ → List ℕ
 after_of file = drop (length (name_in file)) (take 32 file)

@@ -1,5 +1,5 @@
 -- The ranks of an order are those of blocks, each once.
-use Rattle.file_parts.proofs.AllWords.{◌≡◌, ℕ, zero, suc, ◌+◌, ◌<◌, ◌≤◌, Bool, true, false, Option, None, List, [], ◌∷◌, ◌++◌, length, get_or, map, refl, sym, ap, subst, ◌∙◌, arith, inl, inr, ◌==◌, filter, is_some, range_with_len, and_parts, cases_eq, cases_lt, get_or_past, times, same-yes, same-no, times-append, times-cons, times-some, BadWord, fault_in, is_other, order_of, order_fault, OrderLine, Blob, cases_Bool, passing}
+use Rattle.file_parts.proofs.AllWords.{◌≡◌, ℕ, zero, suc, ◌+◌, ◌<◌, ◌≤◌, Bool, true, false, None, List, [], ◌∷◌, ◌++◌, length, get_or, map, refl, sym, ap, subst, ◌∙◌, arith, inl, inr, ◌==◌, filter, is_some, range_with_len, and_parts, cases_eq, cases_lt, get_or_past, times, same-yes, same-no, times-append, times-cons, times-some, BadWord, fault_in, is_other, order_of, order_fault, OrderLine, Blob, cases_Bool, passing}
 use Rattle.file_parts.proofs.ExactBlocks.{zero_of}
 use Rattle.file_parts.proofs.ExactOrders.{named_once, none_fault}
 use Rattle.file_parts.proofs.ExactRanks.{not_true, true_false}

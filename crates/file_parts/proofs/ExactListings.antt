@@ -1,5 +1,5 @@
 -- What the text of an exact folder says after its first line, or its first faulty line.
-use Rattle.file_parts.proofs.AllWords.{◌≡◌, ℕ, ◌+◌, ◌<◌, false, List, [], Option, Some, None, length, sym, ap, ◌∙◌, arith, inl, inr, ◌==◌, ◌||◌, ◌⊎◌, Result, Ok, Err, slice_index, and_left, ne_eqb, Database, data_in, LineFault, ExactText, ExactHead, after_name_fault, exact_with, is_after_name, or_fault, order_fault, said_by, Blob}
+use Rattle.file_parts.proofs.AllWords.{◌≡◌, ℕ, ◌+◌, ◌<◌, false, List, [], Option, Some, None, length, sym, arith, inl, inr, ◌==◌, ◌||◌, ◌⊎◌, Result, Ok, Err, slice_index, and_left, ne_eqb, Database, data_in, LineFault, ExactText, ExactHead, after_name_fault, exact_with, is_after_name, or_fault, order_fault, said_by, Blob}
 
 -- more bytes than the field has don't come after a name
 pub too_long : (name after : List ℕ) → 32 < length after → false ≡ is_after_name name after

@@ -1,5 +1,5 @@
 -- Where blocks begin that come in an order, one after the other, and entries with their offsets.
-use Rattle.file_parts.proofs.AllWords.{◌≡◌, ℕ, zero, suc, ◌+◌, ◌<◌, Bool, true, false, Option, List, [], ◌∷◌, ◌++◌, length, get_or, refl, ap, ◌∙◌, arith, length-append, ◌==◌, flat_map, eq-eqb, ne_eqb, times, Entry, a_record, a_resource, entry_with, block_bytes, block_size, same-yes, times-cons, entries_placed, offset_among, Blob, cases_Bool, inl, inr}
+use Rattle.file_parts.proofs.AllWords.{◌≡◌, ℕ, zero, suc, ◌+◌, ◌<◌, List, [], ◌∷◌, ◌++◌, length, get_or, refl, ap, ◌∙◌, arith, length-append, ◌==◌, flat_map, eq-eqb, ne_eqb, times, Entry, a_record, a_resource, entry_with, block_bytes, block_size, same-yes, times-cons, entries_placed, offset_among, Blob, cases_Bool, inl, inr}
 
 -- the block of one more rank begins after the others
 pub offset_last : (block : ℕ → Blob) (at : ℕ) (ranks : List ℕ) (rank : ℕ) → times rank ranks ≡ 0

@@ -1,5 +1,5 @@
 -- The ranks of a text's lines `order`, with the marks of those that were taken.
-use Rattle.file_parts.proofs.AllWords.{◌≡◌, ℕ, zero, suc, ◌+◌, ◌<◌, ◌≤◌, Bool, true, false, cond, Option, Some, None, List, [], ◌∷◌, ◌++◌, length, get_or, drop, map, refl, sym, ap, subst, ◌∙◌, arith, inl, inr, append_assoc, append-nil, add-one, drop-cons, ◌&&◌, ◌==◌, nat_lt, filter, is_some, replicate, range_with_len, set, and_parts, cases_eq, cases_lt, lt-ltb, le-ltb, ne_eqb, get_or_past, get_or-set_same, get_or-set_other, length-replicate, length-set, filter_of_map_range_with_len_more, times, same-yes, same-no, times-append, times-cons, LineFault, BadWord, fault_in, is_other, order_of, order_fault, AreMarked, free_ranks, is_free, OrderLine, Blob, cases_Bool}
+use Rattle.file_parts.proofs.AllWords.{◌≡◌, ℕ, zero, suc, ◌+◌, ◌<◌, ◌≤◌, Bool, true, false, cond, Some, None, List, [], ◌∷◌, ◌++◌, length, get_or, drop, map, refl, sym, ap, subst, ◌∙◌, arith, inl, inr, append_assoc, append-nil, add-one, drop-cons, ◌&&◌, ◌==◌, nat_lt, filter, is_some, replicate, range_with_len, set, and_parts, cases_eq, cases_lt, lt-ltb, le-ltb, ne_eqb, get_or_past, get_or-set_same, get_or-set_other, length-replicate, length-set, filter_of_map_range_with_len_more, times, same-yes, same-no, times-append, times-cons, LineFault, BadWord, fault_in, is_other, order_of, order_fault, AreMarked, free_ranks, is_free, OrderLine, Blob, cases_Bool}
 use Rattle.file_parts.proofs.ExactBlocks.{zero_of}
 
 and_swap : (a b : Bool) → a && b ≡ b && a

@@ -1,5 +1,5 @@
 -- The file that is put together from the text and the parts of an exact folder.
-use Rattle.file_parts.proofs.AllWords.{◌≡◌, ℕ, ◌+◌, ◌-◌, ◌<◌, ◌≤◌, Bool, Option, Some, None, List, [], ◌∷◌, ◌++◌, length, get_or, take, drop, refl, sym, ap, subst, ◌∙◌, arith, append-nil, append_assoc, length-append, Result, Ok, Err, IfOk, OnOk, replicate, option_map_or, concat, flat_map, get_or-map, length-map, length-replicate, take_all, take_more, flat_map-append, drop-append_seam, Database, Entry, a_record, a_resource, data_in, entry_bytes, entry_data, entry_offset, entry_with, fields_behind_name, has_resources, header_bytes, name_field, block_bytes, length-fields, entry_of, ListedEntry, ListedExact, PackFault, TooLarge, BadLine, OutOfMemory, database_listed, entries_listed, entry_listed, IsRefusedFor, filled, packed_entries, part_at, ExactFile, exact_block, exact_blocks, exact_bytes, exact_offset, exact_placed, exact_size, exact_start, exact_tail, offset_among, AreOffsets, IsExactPackFault, IsListedExact, IsMisplacedLine, exact_packed, Blob}
+use Rattle.file_parts.proofs.AllWords.{◌≡◌, ℕ, ◌+◌, ◌-◌, ◌<◌, ◌≤◌, Bool, Some, None, List, [], ◌∷◌, ◌++◌, length, get_or, take, drop, refl, sym, ap, subst, ◌∙◌, arith, append-nil, append_assoc, length-append, Result, Ok, Err, IfOk, OnOk, replicate, option_map_or, concat, flat_map, get_or-map, length-map, length-replicate, take_all, take_more, flat_map-append, drop-append_seam, Database, Entry, a_record, a_resource, data_in, entry_bytes, entry_data, entry_offset, entry_with, fields_behind_name, has_resources, header_bytes, name_field, block_bytes, length-fields, entry_of, ListedEntry, ListedExact, PackFault, TooLarge, BadLine, OutOfMemory, database_listed, entries_listed, entry_listed, IsRefusedFor, filled, packed_entries, part_at, ExactFile, exact_block, exact_blocks, exact_bytes, exact_offset, exact_placed, exact_size, exact_start, exact_tail, offset_among, AreOffsets, IsExactPackFault, IsListedExact, IsMisplacedLine, exact_packed, Blob}
 use Rattle.file_parts.proofs.ExactOffsets.{length-placed, placed_at}
 use Rattle.file_parts.proofs.ExactPlaces.{ArePlaced, blocks_of}
 use Rattle.file_parts.proofs.PackedEntries.{filled_at, length-packed}

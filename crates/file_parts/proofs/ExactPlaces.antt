@@ -1,5 +1,5 @@
 -- Offsets that are found for one rank after the other.
-use Rattle.file_parts.proofs.AllWords.{◌≡◌, ℕ, ◌+◌, ◌<◌, ◌≤◌, Option, List, [], ◌∷◌, ◌++◌, length, get_or, take, drop, sym, ap, subst, ◌∙◌, arith, inl, inr, append-nil, length-append, replicate, flat_map, set, cases_eq, get_or-replicate, get_or-set_same, get_or-set_other, length-replicate, length-set, take-append-drop, take_more, flat_map-append, times, block_bytes, same-yes, times-append, times-cons, offset_among, Blob}
+use Rattle.file_parts.proofs.AllWords.{◌≡◌, ℕ, ◌+◌, ◌<◌, ◌≤◌, List, [], ◌∷◌, ◌++◌, length, get_or, take, drop, sym, ap, subst, ◌∙◌, arith, inl, inr, append-nil, length-append, replicate, flat_map, set, cases_eq, get_or-replicate, get_or-set_same, get_or-set_other, length-replicate, length-set, take-append-drop, take_more, flat_map-append, times, block_bytes, same-yes, times-append, times-cons, offset_among, Blob}
 use Rattle.file_parts.proofs.ExactOffsets.{offset_last, offset_other}
 use Rattle.file_parts.proofs.ExactRanks.{rest_from}
 

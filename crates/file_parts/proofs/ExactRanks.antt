@@ -1,6 +1,6 @@
 -- The order of the blocks of a file, as a text gives it.
-use Rattle.file_parts.proofs.AllWords.{◌≡◌, ℕ, zero, suc, ◌+◌, ◌<◌, ◌≤◌, Bool, true, false, Option, None, List, [], ◌∷◌, ◌++◌, length, get_or, take, drop, refl, sym, ap, subst, ◌∙◌, arith, inl, inr, append-nil, add-one, drop-cons, ◌==◌, nat_le, filter, is_some, All, range_with_len, and_parts, cases_eq, cases_lt, eq-eqb, leb-true, drop_all, get_or-take, length-map, length-take-le, take_more, get_or-map-range_with_len, times, blocks_in, offsets_in, block_at, times-some, contained-times, start_of, AreSorted, ranks_apart, start_found, block_there, is_other, is_rising, order_of, unless_rising, order_fault, Blob, cases_Bool, passing}
-use Rattle.file_parts.proofs.ExactBlocks.{Start, place_of, start_at, starts_of, zero_of, AreSortedIn}
+use Rattle.file_parts.proofs.AllWords.{◌≡◌, ℕ, zero, suc, ◌+◌, ◌<◌, ◌≤◌, Bool, true, false, None, List, [], ◌∷◌, ◌++◌, length, get_or, take, drop, refl, sym, ap, subst, ◌∙◌, arith, inl, inr, append-nil, add-one, drop-cons, ◌==◌, nat_le, filter, is_some, All, range_with_len, and_parts, cases_eq, cases_lt, eq-eqb, leb-true, drop_all, get_or-take, length-map, length-take-le, take_more, get_or-map-range_with_len, times, blocks_in, offsets_in, block_at, times-some, contained-times, start_of, ranks_apart, start_found, block_there, is_other, is_rising, order_of, unless_rising, order_fault, Blob, cases_Bool, passing}
+use Rattle.file_parts.proofs.ExactBlocks.{place_of, start_at, starts_of, zero_of, AreSortedIn}
 use Rattle.file_parts.proofs.ExactTextBack.{lines_at}
 
 -- ---- lists of ranks that rise

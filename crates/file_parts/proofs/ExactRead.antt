@@ -1,5 +1,5 @@
 -- A file without fault is exactly its header, its entries, its blocks and the bytes between them.
-use Rattle.file_parts.proofs.AllWords.{◌≡◌, ℕ, zero, suc, ◌+◌, ◌<◌, Option, None, List, ◌++◌, length, get_or, take, drop, map, refl, sym, ap, subst, ◌∙◌, arith, ◌==◌, not, AllZip, prefix_len, range_with_len, ext_get_or, get_or-map, length-map, length-take, take-append-drop, take-take, get_or-map-range_with_len, length-map-range_with_len, prefix_len-le-length, Entry, a_record, a_resource, data_in, database_in, entry_count_in, entry_data, entry_in, entry_with, header_in, name_in, HasNoFault, blocks_in, offsets_in, block_count, numbered_zip, HasValuesOf, IsExactly, IsOrderOf, exact_database, exact_entry, exact_in, Blob}
+use Rattle.file_parts.proofs.AllWords.{◌≡◌, ℕ, zero, suc, ◌+◌, ◌<◌, None, List, length, get_or, take, map, refl, sym, subst, arith, ◌==◌, not, AllZip, prefix_len, range_with_len, ext_get_or, get_or-map, length-map, length-take, take-append-drop, take-take, get_or-map-range_with_len, length-map-range_with_len, prefix_len-le-length, Entry, a_record, a_resource, data_in, database_in, entry_count_in, entry_data, entry_in, entry_with, header_in, name_in, HasNoFault, blocks_in, offsets_in, block_count, numbered_zip, HasValuesOf, IsExactly, IsOrderOf, exact_database, exact_entry, exact_in, Blob}
 use Rattle.std.specs.Prelude.{Bool}
 use Rattle.file_parts.proofs.ExactHeads.{data_with}
 

@@ -1,5 +1,5 @@
 -- The bytes of a file as it stands are read back as this file.
-use Rattle.file_parts.proofs.AllWords.{◌≡◌, ℕ, zero, suc, ◌+◌, ◌-◌, ◌*◌, ◌^◌, ◌<◌, ◌≤◌, Bool, true, false, Option, Some, None, List, [], ◌∷◌, ◌++◌, length, get_or, take, drop, map, refl, sym, ap, subst, ◌∙◌, arith, inl, inr, append_assoc, length-append, All, ◌⊎◌, ◌==◌, ◌&&◌, nat_lt, is_some, slice_index, slice_range, AllZip, concat, flat_map, cases_eq, cases_lt, lt-ltb, drop_at, get_or-map, length-map, take_at, All-head, All-tail, All-nil, All-cons, u32_at, times, entry_size, Database, DatabaseFits, DatabaseHeader, Entry, EntryFits, HeaderFits, IsDatabaseName, a_record, a_resource, data_in, database_in, entry_bytes, entry_count_in, entry_data, entry_in, entry_offset, entry_with, fields_behind_name, has_resources, header_in, name_in, HasBadOffset, HasNoFault, IsBadInfo, IsOutside, block_size, entries_end, offsets_in, length-entries, length-fields, filler_in, first_start, IsWritableEntry, IsHeaded, ExactFile, HasValuesOf, IsExactly, entries_placed, exact_block, exact_blocks, exact_bytes, exact_offset, exact_placed, exact_size, exact_start, is_misplaced, offset_among, Blob}
+use Rattle.file_parts.proofs.AllWords.{◌≡◌, ℕ, zero, suc, ◌+◌, ◌-◌, ◌*◌, ◌^◌, ◌<◌, ◌≤◌, Bool, true, false, Some, None, List, [], ◌∷◌, ◌++◌, length, get_or, take, map, refl, sym, ap, subst, ◌∙◌, arith, inl, inr, append_assoc, length-append, All, ◌⊎◌, ◌==◌, ◌&&◌, nat_lt, is_some, slice_index, slice_range, AllZip, concat, flat_map, cases_eq, cases_lt, lt-ltb, drop_at, get_or-map, length-map, take_at, All-head, All-tail, All-nil, All-cons, u32_at, times, entry_size, DatabaseFits, Entry, EntryFits, HeaderFits, IsDatabaseName, a_record, a_resource, data_in, database_in, entry_bytes, entry_count_in, entry_data, entry_in, entry_offset, entry_with, fields_behind_name, has_resources, header_in, name_in, HasBadOffset, HasNoFault, IsBadInfo, IsOutside, block_size, entries_end, offsets_in, length-entries, length-fields, filler_in, first_start, IsWritableEntry, IsHeaded, ExactFile, HasValuesOf, IsExactly, entries_placed, exact_block, exact_blocks, exact_bytes, exact_offset, exact_placed, exact_size, exact_start, is_misplaced, offset_among, Blob}
 use Rattle.pdb_format.proofs.FaultLaws.{HasGoodHead, no_fault}
 use Rattle.file_parts.proofs.ExactBlocks.{first_begins}
 use Rattle.file_parts.proofs.ExactBlocksBack.{AreLaid, blocks_back, first_is, offset_low, offset_most, offset_none, sorted, starts_all, starts_rise}

@@ -1,8 +1,8 @@
 -- A file without fault is the bytes of what it is exactly.
-use Rattle.file_parts.proofs.AllWords.{◌≡◌, ℕ, suc, ◌+◌, ◌*◌, ◌-◌, ◌^◌, ◌<◌, ◌≤◌, Bool, true, false, Option, None, List, [], ◌∷◌, ◌++◌, length, get_or, take, drop, map, refl, sym, ap, ◌∙◌, arith, inl, inr, append_assoc, ◌&&◌, ◌==◌, nat_lt, filter, slice_index, AllZip, concat, flat_map, and_parts, cases_eq, ltb-true, length-drop, length-take, drop-drop, take-append-drop, big_from-lt, u16_at, u32_at, AreBytes, entry_size, Database, DatabaseHeader, Entry, a_record, a_resource, database_in, entry_bytes, entry_count_in, entry_data, entry_offset, fields_behind_name, has_resources, header_in, resources_in, HasNoFault, blocks_in, block_bytes, block_size, entries_end, offsets_in, entries_upto, fields_back, length-entries_in, filler_in, first_start, not_truncated, offset_count, AreSorted, zip_long, ExactFile, HasValuesOf, IsExactly, entries_placed, exact_block, exact_blocks, exact_bytes, exact_offset, exact_placed, exact_size, exact_start, is_misplaced, offset_among, Blob, cases_Bool}
+use Rattle.file_parts.proofs.AllWords.{◌≡◌, ℕ, suc, ◌+◌, ◌*◌, ◌-◌, ◌^◌, ◌<◌, ◌≤◌, false, None, List, [], ◌∷◌, ◌++◌, length, get_or, take, drop, map, refl, sym, ap, ◌∙◌, arith, inl, inr, append_assoc, ◌&&◌, ◌==◌, nat_lt, filter, slice_index, AllZip, concat, flat_map, and_parts, cases_eq, ltb-true, length-drop, length-take, drop-drop, take-append-drop, big_from-lt, u16_at, u32_at, AreBytes, entry_size, Database, DatabaseHeader, Entry, a_record, a_resource, database_in, entry_bytes, entry_count_in, entry_data, entry_offset, fields_behind_name, has_resources, header_in, resources_in, HasNoFault, blocks_in, block_bytes, block_size, entries_end, offsets_in, entries_upto, fields_back, length-entries_in, first_start, not_truncated, offset_count, AreSorted, zip_long, ExactFile, HasValuesOf, IsExactly, entries_placed, exact_block, exact_blocks, exact_bytes, exact_offset, exact_placed, exact_size, exact_start, is_misplaced, Blob, cases_Bool}
 use Rattle.heap_model.specs.declared.file_fault.FileFault.TheVariants.{Truncated}
 use Rattle.pdb_format.proofs.LeastOffsets.{first_after, least_most}
-use Rattle.file_parts.proofs.ExactBlocks.{at_first, at_next, blocks_rest, first_begins, join, none_misplaced, offset_back, ranks_sorted, starts_of, zero_of, at_rank}
+use Rattle.file_parts.proofs.ExactBlocks.{at_first, at_next, blocks_rest, first_begins, join, none_misplaced, offset_back, ranks_sorted, starts_of, zero_of}
 
 -- ---- the entries, as they were read
 

@@ -1,5 +1,5 @@
 -- The ranks of the blocks of a file, sorted by where the blocks begin.
-use Rattle.file_parts.proofs.AllWords.{◌≡◌, ℕ, zero, suc, ◌+◌, ◌*◌, ◌^◌, ◌<◌, Bool, true, false, cond, List, [], ◌∷◌, ◌++◌, length, get_or, map, refl, sym, ap, subst, ◌∙◌, arith, nat_lt, filter, slice_index, range_with_len, IsPermutation, IsNonDecreasingBy, lt-ltb, le-ltb, length-map, get_or-map, All-filter, filter_of_map_range_with_len_more, get_or-map-range_with_len, length-map-range_with_len, All-permutation, IsPermutation-map, start_of, is_block_there, order, none, IsOrderOf, block_order, block_starts, BlockStart, cases_Bool, inl, inr}
+use Rattle.file_parts.proofs.AllWords.{◌≡◌, ℕ, zero, suc, ◌+◌, ◌<◌, Bool, true, false, List, [], ◌∷◌, ◌++◌, length, get_or, map, refl, sym, ap, subst, arith, nat_lt, filter, slice_index, range_with_len, IsPermutation, IsNonDecreasingBy, lt-ltb, le-ltb, length-map, get_or-map, All-filter, filter_of_map_range_with_len_more, get_or-map-range_with_len, length-map-range_with_len, All-permutation, IsPermutation-map, start_of, is_block_there, order, none, IsOrderOf, block_order, block_starts, BlockStart, cases_Bool, inl, inr}
 use Rattle.std.specs.List.{All}
 use Rattle.std.proofs.lemmas.List.{append-nil}
 use Rattle.file_parts.proofs.ExactBlocks.{Start}

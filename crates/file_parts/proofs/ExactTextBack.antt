@@ -1,5 +1,5 @@
 -- The text of an exact folder is read as what it says.
-use Rattle.file_parts.proofs.AllWords.{◌≡◌, ◌<◌, ◌≤◌, ◌+◌, ◌-◌, ◌^◌, zero, suc, ℕ, Bool, true, false, Option, Some, None, List, [], ◌∷◌, ◌++◌, length, map, refl, sym, ap, subst, ◌∙◌, arith, inl, inr, append_assoc, append-nil, ◌⊎◌, ⊤, All, Ok, decimal, codes, nat_lt, option_map, bytes_eq, lines, cases_eq, eq-eqb, lt-ltb, ne_eqb, All-head, All-tail, encode_lower, decode_of-encode_lower, AreBytes, Database, data_in, words_of, number_below, database_text, left, spelled_part, Read, field, then_read, HasText, IsPartName, ExactText, exact_lines, exact_text, filler_line, name_field_line, order_line, order_lines, rank_word, ExactHead, after_name_fault, next_order, order_fault, read_after_name, read_exact, read_exact_head, read_exact_line, read_order, read_order_line, said_by, spelled_after_name, spelled_rank, OrderLine, AfterName, Blob, cases_Bool}
+use Rattle.file_parts.proofs.AllWords.{◌≡◌, ◌<◌, ◌≤◌, ◌+◌, ◌-◌, ◌^◌, zero, suc, ℕ, true, false, Option, Some, None, List, [], ◌∷◌, ◌++◌, length, map, refl, sym, ap, subst, ◌∙◌, arith, inl, inr, append_assoc, append-nil, ◌⊎◌, ⊤, All, Ok, decimal, codes, nat_lt, option_map, bytes_eq, lines, cases_eq, eq-eqb, lt-ltb, ne_eqb, All-head, All-tail, encode_lower, decode_of-encode_lower, AreBytes, Database, data_in, words_of, number_below, database_text, left, spelled_part, field, then_read, HasText, IsPartName, ExactText, exact_lines, exact_text, filler_line, name_field_line, order_line, order_lines, rank_word, ExactHead, after_name_fault, next_order, order_fault, read_after_name, read_exact, read_exact_head, read_exact_line, read_order, read_order_line, said_by, spelled_after_name, spelled_rank, OrderLine, AfterName, Blob, cases_Bool}
 use Rattle.std.proofs.lemmas.Slice.Eq.{bytes_eq-Decides}
 use Rattle.file_parts.proofs.WordTexts.{IsWord, plain_is_word, number_back, number_is_word, line_first}
 use Rattle.file_parts.proofs.TextLaws.{hex_is_word, part_word, part_is_word, part_back, field_here, first_line, one_info, read_back_from, texts_begin, first_words}

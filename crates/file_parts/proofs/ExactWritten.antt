@@ -1,5 +1,5 @@
 -- The parts of an exact file, as they are written one after the other.
-use Rattle.file_parts.proofs.AllWords.{◌≡◌, ℕ, ◌+◌, ◌<◌, ◌≤◌, ◌++◌, Bool, true, false, Option, None, List, [], ◌∷◌, length, get_or, drop, refl, sym, ap, subst, ◌∙◌, arith, append_assoc, add-one, drop-cons, concat, flat_map, drop_all, times, Entry, a_record, data_in, entry_bytes, entry_with, fields_behind_name, block_bytes, contained-times, times-some, Writing, Writes, then, stops, PackFault, ExactFile, exact_block, exact_blocks, exact_bytes, exact_offset, exact_placed, exact_size, exact_start, exact_tail, AreOffsets, HasValuesAt, IsOrdered, IsPlaceFault, IsRefusedFor, Blob}
+use Rattle.file_parts.proofs.AllWords.{◌≡◌, ℕ, ◌+◌, ◌<◌, ◌≤◌, ◌++◌, Bool, true, false, None, List, [], ◌∷◌, length, get_or, drop, refl, sym, ap, subst, ◌∙◌, arith, append_assoc, add-one, drop-cons, concat, flat_map, drop_all, times, Entry, a_record, data_in, entry_bytes, entry_with, fields_behind_name, block_bytes, contained-times, times-some, Writing, Writes, then, stops, PackFault, ExactFile, exact_block, exact_blocks, exact_bytes, exact_offset, exact_placed, exact_size, exact_start, exact_tail, AreOffsets, HasValuesAt, IsOrdered, IsPlaceFault, IsRefusedFor, Blob}
 use Rattle.file_parts.specs.declared.packing.PackFault.TheVariants as packs
 use Rattle.file_parts.specs.declared.exact_writing.PlaceFault.TheVariants.{TooLarge}
 use Rattle.file_parts.proofs.ExactOffsets.{length-placed, placed_at}

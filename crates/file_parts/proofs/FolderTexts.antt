@@ -1,5 +1,5 @@
 -- The text of a folder, by what its first line is.
-use Rattle.file_parts.proofs.AllWords.{◌≡◌, ℕ, true, false, Option, Some, None, List, refl, sym, ap, subst, ◌∙◌, Result, Ok, Err, lines, LineFault, Left, left, read_database, ExactText, if_exact, read_exact, read_exact_from, read_exact_line, IsCanonicallyRead, IsExactlyRead, IsFaultOf, IsFaultyText, IsReadFrom, ListedFolder}
+use Rattle.file_parts.proofs.AllWords.{◌≡◌, ℕ, true, false, Some, None, List, refl, sym, ap, subst, ◌∙◌, Ok, Err, lines, LineFault, Left, left, read_database, read_exact, read_exact_from, read_exact_line, IsCanonicallyRead, IsExactlyRead, IsFaultOf, IsFaultyText, IsReadFrom, ListedFolder}
 use Rattle.file_parts.specs.declared.either.ListedFolder.TheVariants as listed
 
 said_exactly : (text : List ℕ) (start rest : Left) → start ≡ left 0 (lines text)

@@ -1,5 +1,5 @@
 -- Blocks in list order: their offsets, and the bytes of a file that has them in this order.
-use Rattle.file_parts.proofs.AllWords.{◌≡◌, ℕ, zero, suc, ◌+◌, ◌-◌, ◌<◌, ◌++◌, Bool, true, false, Option, Some, None, List, [], ◌∷◌, length, get_or, map, refl, sym, ap, ◌∙◌, arith, append_assoc, filter, is_some, replicate, concat, flat_map, range_with_len, eq-eqb, ne_eqb, length-map, fill_by_all, Database, DatabaseHeader, Entry, a_record, a_resource, data_in, entry_bytes, entry_data, fields_behind_name, header_bytes, name_field, spelled, block_bytes, block_offset, block_size, entries_with_offsets, with_offsets, all_bytes, running, ExactFile, entries_placed, exact_block, exact_blocks, exact_bytes, exact_offset, exact_placed, exact_start, offset_among, is_other, order_of, Blob, cases_Bool, passing, inl, inr}
+use Rattle.file_parts.proofs.AllWords.{◌≡◌, ℕ, zero, suc, ◌+◌, ◌-◌, ◌<◌, ◌++◌, Bool, true, false, Some, None, List, [], ◌∷◌, length, get_or, map, refl, sym, ap, ◌∙◌, arith, append_assoc, is_some, replicate, concat, flat_map, range_with_len, eq-eqb, ne_eqb, length-map, fill_by_all, Database, DatabaseHeader, Entry, a_record, a_resource, data_in, entry_bytes, entry_data, fields_behind_name, header_bytes, name_field, spelled, block_bytes, block_size, entries_with_offsets, with_offsets, all_bytes, running, ExactFile, entries_placed, exact_blocks, exact_bytes, exact_offset, exact_placed, exact_start, offset_among, is_other, order_of, Blob, cases_Bool, passing, inl, inr}
 use Rattle.file_parts.proofs.ExactBlocks.{at_first, at_next, at_rank}
 use Rattle.file_parts.proofs.ExactBlocksBack.{offset_none}
 use Rattle.file_parts.proofs.ExactInside.{times_below}

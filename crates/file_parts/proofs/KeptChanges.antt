@@ -1,10 +1,10 @@
 -- The bytes of a file stay the same exactly if no change is left.
-use Rattle.file_parts.proofs.AllWords.{◌≡◌, ℕ, suc, ◌+◌, ◌-◌, ◌*◌, ◌^◌, ◌<◌, ◌≤◌, ◌++◌, Bool, true, false, Option, None, List, [], ◌∷◌, length, get_or, map, refl, sym, ap, subst, ◌∙◌, arith, inl, inr, ◌↔◌, ◌&&◌, not, if◌then◌else◌, ⊤, All, IsTrue, IsFalse, replicate, AllZip, filter_map, cases_lt, append_cancel_left, length-map, All-cons, All-head, All-nil, All-tail, AreBytes, seed_in, with_seed, Database, DatabaseHeader, Entry, a_record, a_resource, data_in, database_in, entry_data, entry_offset, has_resources, header_in, name_field, name_in, unique_id, unique_ids, HaveIds, IsReadAs, Reads, block_offset, block_size, blocks_in, entries_with_offsets, idle, idle_attributes, idle_entry, offsets_in, with_offsets, filler_in, written_filler, order, start_of, read_once, AreSorted, none, idle_twice, header_stays, running, Known, all_idle, none_busy, seed_stays, rising_running, ExactFile, HasValuesOf, IsExactly, exact_bytes, exact_start, after_name_of, is_rising, order_of, unless_rising, AreChangesLeft, changes_left, kept_exact, Keep, Blob}
+use Rattle.file_parts.proofs.AllWords.{◌≡◌, ℕ, suc, ◌+◌, ◌-◌, ◌*◌, ◌^◌, ◌<◌, ◌≤◌, ◌++◌, Bool, true, false, None, List, [], ◌∷◌, length, get_or, map, refl, sym, ap, subst, ◌∙◌, arith, inl, inr, ◌↔◌, ◌&&◌, not, if◌then◌else◌, ⊤, All, IsTrue, IsFalse, replicate, AllZip, filter_map, cases_lt, append_cancel_left, length-map, All-cons, All-head, All-nil, All-tail, AreBytes, seed_in, with_seed, Database, DatabaseHeader, Entry, a_record, a_resource, data_in, database_in, entry_data, entry_offset, has_resources, header_in, name_field, name_in, unique_id, unique_ids, HaveIds, IsReadAs, Reads, block_size, blocks_in, entries_with_offsets, idle, idle_attributes, idle_entry, offsets_in, with_offsets, filler_in, written_filler, order, start_of, read_once, none, idle_twice, header_stays, running, Known, all_idle, none_busy, seed_stays, rising_running, ExactFile, HasValuesOf, IsExactly, exact_bytes, exact_start, after_name_of, is_rising, order_of, unless_rising, AreChangesLeft, changes_left, kept_exact, Keep, Blob}
 use Rattle.canonical_file.specs.Changes.{AreChanges, AreRising, HasPlainFiller, HasPlainName, IsIdle, IsInOrder, KeepsIds, NoneIsBusy, is_none}
 use Rattle.canonical_file.specs.declared.changes.Changes.{Changes}
 use Rattle.canonical_file.proofs.Canonicals.{none_said, said_none}
 use Rattle.canonical_file.proofs.Rising.{rising_pair}
-use Rattle.file_parts.proofs.ExactBlocks.{place_of, start_at, starts_of, AreSortedIn}
+use Rattle.file_parts.proofs.ExactBlocks.{place_of, start_at, AreSortedIn}
 use Rattle.file_parts.proofs.ExactRanks.{order_back}
 use Rattle.file_parts.proofs.ExactRising.{rising_all}
 use Rattle.file_parts.proofs.ExactFolders.{exact_whole, same_exact}

@@ -1,5 +1,5 @@
 -- A file of which nothing is kept is in canonical form.
-use Rattle.file_parts.proofs.AllWords.{◌≡◌, ℕ, ◌-◌, ◌++◌, Bool, true, false, Option, List, [], ◌∷◌, length, map, refl, sym, ap, ◌∙◌, ◌||◌, not, IsTrue, replicate, AllZip, Database, DatabaseHeader, Entry, a_record, a_resource, data_in, database_in, spelled, IsReadAs, Reads, file_of, first_block, idle, idle_attributes, idle_entry, with_offsets, written_filler, idle_twice, all_bytes, IsCanonical, ExactFile, IsExactly, exact_bytes, order_of, keeps_nothing, kept_exact, Keep, Blob}
+use Rattle.file_parts.proofs.AllWords.{◌≡◌, ℕ, ◌-◌, Bool, true, false, List, [], length, map, refl, sym, ap, ◌∙◌, ◌||◌, not, IsTrue, replicate, AllZip, Database, Entry, a_record, a_resource, data_in, database_in, IsReadAs, Reads, file_of, idle, idle_entry, written_filler, idle_twice, IsCanonical, ExactFile, IsExactly, exact_bytes, order_of, keeps_nothing, kept_exact, Keep, Blob}
 use Rattle.file_parts.proofs.KeptBlocks.{bytes_listed}
 use Rattle.file_parts.proofs.PackedBack.{zip_idle}
 

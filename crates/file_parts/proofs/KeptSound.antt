@@ -1,5 +1,5 @@
 -- A file that keeps some things is read back as this file.
-use Rattle.file_parts.proofs.AllWords.{◌≡◌, ℕ, suc, ◌+◌, ◌^◌, ◌<◌, ◌≤◌, Bool, true, false, Option, None, List, [], ◌∷◌, length, get_or, map, refl, sym, ap, subst, ◌∙◌, arith, All, ◌==◌, ◌&&◌, if◌then◌else◌, nat_lt, is_some, slice_index, AllZip, filter_map, range_with_len, and_from, and_parts, ltb-true, and_le_l, length-map, All-head, All-tail, All-nil, All-cons, AreBytes, times, greatest_id, Database, DatabaseHeader, Entry, HeaderFits, IsDatabaseName, a_record, a_resource, data_in, database_in, entry_data, has_resources, header_in, is_deleted, unique_id, IsReadAs, block_size, blocks_in, idle, idle_entry, contained-times, distinct-times, times-some, IsWritableEntry, block_count, offset_count, still_deleted, zip_long, most_bytes, Known, fits_seeded, same_head, ExactFile, HasValuesOf, IsExactly, exact_bytes, exact_size, after_name_of, is_other, order_of, KeepsParts, kept_exact, Keep, Blob}
+use Rattle.file_parts.proofs.AllWords.{◌≡◌, ℕ, suc, ◌+◌, ◌^◌, ◌<◌, ◌≤◌, Bool, true, false, None, List, [], ◌∷◌, length, get_or, map, refl, sym, ap, subst, ◌∙◌, arith, All, ◌==◌, ◌&&◌, if◌then◌else◌, nat_lt, is_some, slice_index, AllZip, filter_map, range_with_len, and_from, and_parts, ltb-true, and_le_l, length-map, All-head, All-tail, All-nil, All-cons, AreBytes, times, greatest_id, Database, Entry, HeaderFits, IsDatabaseName, a_record, a_resource, data_in, database_in, entry_data, has_resources, header_in, is_deleted, unique_id, IsReadAs, block_size, blocks_in, idle, idle_entry, contained-times, distinct-times, times-some, IsWritableEntry, block_count, offset_count, still_deleted, zip_long, most_bytes, Known, fits_seeded, same_head, ExactFile, HasValuesOf, IsExactly, exact_bytes, exact_size, after_name_of, is_other, order_of, KeepsParts, kept_exact, Keep, Blob}
 use Rattle.file_parts.proofs.ExactBlocksBack.{times_in}
 use Rattle.file_parts.proofs.ExactFits.{all_writable, count_small, database_same, file_header, file_name}
 use Rattle.file_parts.proofs.ExactHeadBack.{AreAfter}

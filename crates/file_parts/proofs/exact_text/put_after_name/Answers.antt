@@ -1,5 +1,5 @@
 -- `put_after_name` writes the line with the bytes after the name, if one of them isn't zero.
-use Rattle.file_parts.proofs.AllLaws.{◌≡◌, ◌++◌, List, ℕ, true, refl, sym, ap, ◌∙◌, codes, false≢true, encode_lower, nothing, after_name_text, no_line, some_line, name_front}
+use Rattle.file_parts.proofs.AllLaws.{◌≡◌, ◌++◌, List, ℕ, refl, sym, ap, ◌∙◌, codes, false≢true, encode_lower, nothing, after_name_text, no_line, some_line, name_front}
 use Rattle.file_parts.proofs.exact_text.put_after_name.Goals as goal
 
 pub returns-then-has_name : goal.returns-then-has_name

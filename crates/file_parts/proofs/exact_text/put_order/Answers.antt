@@ -1,5 +1,5 @@
 -- `put_order` writes the lines `order`, if the blocks are not in list order.
-use Rattle.file_parts.proofs.AllWords.{◌≡◌, List, ℕ, Bool, [], cond, true, sym, ap, ◌∙◌, nothing, order_lines, order_text}
+use Rattle.file_parts.proofs.AllWords.{◌≡◌, List, ℕ, Bool, [], cond, sym, ap, ◌∙◌, nothing, order_lines, order_text}
 use Rattle.file_parts.proofs.exact_text.put_order.Goals as goal
 
 pub returns-then-is_list_order : goal.returns-then-is_list_order
