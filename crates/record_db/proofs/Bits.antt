@@ -1,6 +1,7 @@
 -- Bits of attributes, tested by masks and set.
-use Rattle.record_db.proofs.Words.{◌≡◌, ℕ, zero, suc, ◌*◌, ◌<◌, Bool, true, false, refl, ap, ◌∙◌, arith, bit_and, bit_or, inl, inr, cases_eq, ne_eqb, ◌==◌, min, max, is_deleted, is_busy, released, attributes_set}
+use Rattle.record_db.proofs.Words.{◌≡◌, ℕ, zero, suc, ◌*◌, ◌<◌, Bool, true, false, refl, ap, ◌∙◌, arith, bit_and, bit_or, ◌==◌, min, is_deleted, is_busy, released, attributes_set}
 use Rattle.std.proofs.lemmas.Nat.Bits.{and_pow, bit_at-lt, bit_at_and, bit_at_or}
+use Rattle.std.proofs.lemmas.Bool.{eqb-true}
 use Rattle.std.specs.Int.{bit_at}
 
 -- ---- tested
@@ -15,31 +16,21 @@ busy_by_mask busy attributes is = is ∙ ap (λ (x : ℕ). x == 32) (and_pow att
 
 -- ---- set
 
-is_one : (bit : ℕ) → (bit == 1) ≡ true → bit ≡ 1
-is_one bit e = elim (cases_eq bit 1) [
-  | inl same ↦ same
-  | inr ne ↦ let no = ne_eqb bit 1 ne in absurd cc
-]
+-- a mask keeps the deleted bit, if it has that
+kept_deleted : (attributes mask : ℕ) → bit_at mask 7 ≡ 1 → is_deleted attributes ≡ true → is_deleted (bit_and attributes mask) ≡ true
+kept_deleted attributes mask has e = ap (λ (b : ℕ). b == 1) (bit_at_and attributes mask 7 ∙ ap (λ (b : ℕ). min b (bit_at mask 7)) (eqb-true (bit_at attributes 7) 1 e) ∙ ap (λ (b : ℕ). min 1 b) has)
 
-kept_deleted : (attributes : ℕ) → is_deleted attributes ≡ true → is_deleted (bit_and attributes 0xDF) ≡ true
-kept_deleted attributes e =
-    let bit : bit_at attributes 7 ≡ 1 = is_one (bit_at attributes 7) e in
-    ap (λ (b : ℕ). b == 1) (bit_at_and attributes 0xDF 7 ∙ ap (λ (b : ℕ). min b (bit_at 0xDF 7)) bit)
-
-dirty_deleted : (attributes : ℕ) → is_deleted attributes ≡ true → is_deleted (bit_or attributes 0x40) ≡ true
-dirty_deleted attributes e =
-    let bit : bit_at attributes 7 ≡ 1 = is_one (bit_at attributes 7) e in
-    ap (λ (b : ℕ). b == 1) (bit_at_or attributes 0x40 7 ∙ ap (λ (b : ℕ). max b (bit_at 0x40 7)) bit)
+-- and other bits leave it
+more_deleted : (attributes more : ℕ) → is_deleted attributes ≡ true → is_deleted (bit_or attributes more) ≡ true
+more_deleted attributes more e =
+    let bit : bit_at (bit_or attributes more) 7 ≡ 1 = omega (arith, bit_at_or attributes more 7, bit_at-lt more 7, eqb-true (bit_at attributes 7) 1 e) in
+    ap (λ (b : ℕ). b == 1) bit
 
 -- a record that is released stays deleted
 pub released_deleted : (dirty : Bool) (attributes : ℕ) → is_deleted attributes ≡ true → is_deleted (released dirty attributes) ≡ true
-released_deleted false attributes e = kept_deleted attributes e
-released_deleted true attributes e = dirty_deleted (bit_and attributes 0xDF) (kept_deleted attributes e)
+released_deleted false attributes e = kept_deleted attributes 0xDF refl e
+released_deleted true attributes e = more_deleted (bit_and attributes 0xDF) 0x40 (kept_deleted attributes 0xDF refl e)
 
 -- and so does one for which attributes are given
 pub set_deleted : (given attributes : ℕ) → is_deleted attributes ≡ true → is_deleted (attributes_set given attributes) ≡ true
-set_deleted given attributes e =
-    let bit : bit_at attributes 7 ≡ 1 = is_one (bit_at attributes 7) e in
-    let kept : bit_at (bit_and attributes 0xA0) 7 ≡ 1 = bit_at_and attributes 0xA0 7 ∙ ap (λ (b : ℕ). min b (bit_at 0xA0 7)) bit in
-    let none : bit_at (bit_and given 0x5F) 7 ≡ 0 = bit_at_and given 0x5F 7 ∙ (let least : min (bit_at given 7) 0 ≡ 0 = omega arith in least) in
-    ap (λ (b : ℕ). b == 1) (bit_at_or (bit_and attributes 0xA0) (bit_and given 0x5F) 7 ∙ ap (λ (b : ℕ). max b (bit_at (bit_and given 0x5F) 7)) kept ∙ ap (λ (b : ℕ). max 1 b) none)
+set_deleted given attributes e = more_deleted (bit_and attributes 0xA0) (bit_and given 0x5F) (kept_deleted attributes 0xA0 refl e)

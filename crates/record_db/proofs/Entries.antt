@@ -1,7 +1,8 @@
 -- The records of an accepted image, by their indexes.
-use Rattle.record_db.proofs.Words.{◌≡◌, ℕ, ◌<◌, Bool, List, Option, Some, None, refl, sym, ap, subst, ◌∙◌, arith, inl, inr, true, false, cases_eq, ◌↔◌, ◌==◌, ◌&&◌, ◌||◌, not, IsSome, IsSomeAnd, IfSome, slice_get, LiveChunk, not_owned, callers_map, Of, IsLocked, all_categories, category_of, has_category, Database, Entry, a_record, a_resource, is_deleted, HasData, Accepted, store_of, with_number, entry_under, OfEntry, data_of_entry, data_under, IsNameOf, IsInfoOf, Db, IsNamed, here, entry_is, of_all, number_read, entries_read}
+use Rattle.record_db.proofs.Words.{◌≡◌, ℕ, ◌<◌, List, Option, Some, None, refl, ap, subst, ◌∙◌, arith, inl, inr, true, false, ◌↔◌, not, IsSome, IsSomeAnd, IfSome, slice_get, LiveChunk, not_owned, callers_map, Of, IsLocked, has_category, Database, Entry, a_record, a_resource, is_deleted, HasData, Accepted, store_of, with_number, entry_under, OfEntry, data_of_entry, data_under, IsNameOf, IsInfoOf, Db, IsNamed, here, entry_is, of_all, number_read, entries_read, ◌≢◌, both_ways}
 use Rattle.heap_model.specs.declared.names.Name.{Name}
 use Rattle.heap_model.specs.declared.entry.RecordInfo.{RecordInfo}
+use Rattle.std.proofs.lemmas.Bool.{and_parts, not-true}
 use Rattle.laws_heap.proofs.Meanings.{held-zero}
 use Rattle.laws_store.proofs.Owners.{owned_some}
 use Rattle.palm_store.specs.Databases.{HasDatabase}
@@ -12,17 +13,16 @@ use Rattle.palm_store.proofs.OpenedEntries as entries
 -- what is told of a record says what its entry is
 pub info_is : (x : Option (Entry ℕ)) (info : RecordInfo) → OfEntry x (IsInfoOf info) → (slot : ℕ) × (x ≡ Some (a_record info.attributes info.id slot)) × IsNameOf slot info.«data»
 info_is None info p = absurd p
-info_is (Some (a_record attributes id slot)) info p = (slot, ap (λ (a : ℕ). Some (a_record a id slot)) (sym p.0) ∙ ap (λ (i : ℕ). Some (a_record info.attributes i slot)) (sym p.1), p.2)
+info_is (Some (a_record attributes id slot)) info p = (slot, rw (p.0, p.1) refl, p.2)
 info_is (Some (a_resource kind id slot)) info p = absurd p
 
 -- a record without data is deleted
 pub no_data : (image : List ℕ) (db : Db) (index attributes id slot : ℕ) → Accepted image → IsSome (with_number (store_of image) db.0) → entry_under (store_of image) db index ≡ Some (a_record attributes id slot) → slot ≡ 0 → is_deleted attributes ≡ true
 no_data image db index attributes id slot a has e none =
     let h = here image db.0 a has in
-    let «data» : HasData image (a_record attributes id slot) = of_all (HasData image) h.one.database.entries index (a_record attributes id slot) h.whole.entries (entry_is image db index (a_record attributes id slot) h e) in
-    elim «data» [
+    elim (of_all (HasData image) h.one.database.entries index (a_record attributes id slot) h.whole.entries (entry_is image db index (a_record attributes id slot) h e)) [
       | inl deleted ↦ deleted.1
-      | inr own ↦ let some = owned_some image slot 15 a.heap own (omega arith) in absurd (omega (arith, some, none))
+      | inr own ↦ absurd (omega (arith, owned_some image slot 15 a.heap own (omega arith), none))
     ]
 
 -- and one that is not has data
@@ -41,13 +41,8 @@ pub of_named : (image : List ℕ) (db : Db) (index category : ℕ) (database : D
 of_named image db index category database attributes id slot a is at of =
     let has = number_read image db database is in
     let e : entry_under (store_of image) db index ≡ Some (a_record attributes id slot) = ap (λ (xs : List (Entry ℕ)). slice_get xs index) (entries_read image db database is) ∙ at in
-    entries.data_named image db index (a_record attributes id slot) a has e (elim (cases_eq slot 0) [
-      | inl none ↦
-          let gone = no_data image db index attributes id slot a has e none in
-          let no : has_category category attributes ≡ false = ap (λ (deleted : Bool). not deleted && ((category == all_categories) || (category_of attributes == category))) gone in
-          absurd cc
-      | inr some ↦ omega arith
-    ])
+    let some : slot ≢ 0 = λ none. both_ways (is_deleted attributes) (not-true (is_deleted attributes) (and_parts (not (is_deleted attributes)) _ of).0) (no_data image db index attributes id slot a has e none) in
+    entries.data_named image db index (a_record attributes id slot) a has e (omega (arith, some))
 
 -- callers may name what is told of
 pub data_named : (image : List ℕ) (db : Db) (index : ℕ) (info : RecordInfo) → Accepted image → IsSome (with_number (store_of image) db.0) → OfEntry (entry_under (store_of image) db index) (IsInfoOf info) → IfSome info.«data» (λ name. IsNamed image name.0)
@@ -56,7 +51,7 @@ data_named image db index info a has told =
     by info.«data» is.0 is.2 (λ some. entries.data_named image db index (a_record info.attributes info.id is.0) a has is.1 some) where
       by : (x : Option Name) (slot : ℕ) → IsNameOf slot x → (0 < slot → IsNamed image slot) → IfSome x (λ name. IsNamed image name.0)
       by None slot none named = tt
-      by (Some name) slot some named = subst (IsNamed image) (sym some.1) (named some.0)
+      by (Some name) slot some named = rw some.1 (named some.0)
 
 -- what is told of the data says whether it is locked
 pub locked_data : (image : List ℕ) (db : Db) (index : ℕ) (info : RecordInfo) → Accepted image → OfEntry (entry_under (store_of image) db index) (IsInfoOf info)
@@ -64,14 +59,7 @@ pub locked_data : (image : List ℕ) (db : Db) (index : ℕ) (info : RecordInfo)
 unfolding store_of
 locked_data image db index info a told =
     let is = info_is (entry_under (store_of image) db index) info told in
-    let slot : ℕ = is.0 in
-    let under : data_under (store_of image) db index ≡ slot = ap data_of_entry is.1 in
-    let both = by info.«data» slot is.2 in
-    (λ p. both.0 (subst (λ (n : ℕ). Of (callers_map image n) IsLocked) under p), λ q. subst (λ (n : ℕ). Of (callers_map image n) IsLocked) (sym under) (both.1 q)) where
-      nothing : callers_map image 0 ≡ None
-      nothing = ap (not_owned 0) (held-zero image a.heap)
-
+    rw (ap data_of_entry is.1) (by info.«data» is.0 is.2) where
       by : (x : Option Name) (slot : ℕ) → IsNameOf slot x → (Of (callers_map image slot) IsLocked) ↔ (IsSomeAnd x (λ name. Of (callers_map image name.0) IsLocked))
-      by None slot none = (λ p. subst (λ (o : Option LiveChunk). Of o IsLocked) (ap (callers_map image) none ∙ nothing) p, λ q. absurd q)
-      by (Some name) slot some =
-          (λ p. subst (λ (n : ℕ). Of (callers_map image n) IsLocked) (sym some.1) p, λ q. subst (λ (n : ℕ). Of (callers_map image n) IsLocked) some.1 q)
+      by None slot none = (λ p. subst (λ (o : Option LiveChunk). Of o IsLocked) (ap (callers_map image) none ∙ ap (not_owned 0) (held-zero image a.heap)) p, λ q. absurd q)
+      by (Some name) slot some = rw some.1 (λ p. p, λ q. q)

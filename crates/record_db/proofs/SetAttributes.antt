@@ -13,39 +13,24 @@ abbrev Has : ℕ → Entry ℕ → Type 0
 Has id entry = unique_id entry ≡ Some id
 
 first_has : (entry : Entry ℕ) (entries : List (Entry ℕ)) (id : ℕ) → Has id entry → times id (ids (entry ∷ entries)) ≡ 1 + times id (ids entries)
-first_has (a_record attributes own slot) entries id e =
-    let yes = same-yes own id (same_some own id e) in
-    let cons = times-cons id own (ids entries) in
-    omega (arith, yes, cons)
+first_has (a_record attributes own slot) entries id e = omega (arith, same-yes own id (same_some own id e), times-cons id own (ids entries))
 first_has (a_resource kind own slot) entries id e = absurd (none_some (unique_id (a_resource kind own slot)) id refl e)
 
 more_have : (entry : Entry ℕ) (entries : List (Entry ℕ)) (id : ℕ) → times id (ids entries) ≤ times id (ids (entry ∷ entries))
-more_have (a_record attributes own slot) entries id = let cons = times-cons id own (ids entries) in omega (arith, cons)
+more_have (a_record attributes own slot) entries id = omega (arith, times-cons id own (ids entries))
 more_have (a_resource kind own slot) entries id = omega arith
 
 has_one : (entries : List (Entry ℕ)) (index id : ℕ) → OfEntry (slice_get entries index) (Has id) → 0 < times id (ids entries)
 has_one [] index id p = absurd p
-has_one (entry ∷ entries) zero id p = let one = first_has entry entries id p in omega (arith, one)
-has_one (entry ∷ entries) (suc index) id p =
-    let some = has_one entries index id p in
-    let more = more_have entry entries id in
-    omega (arith, some, more)
+has_one (entry ∷ entries) zero id p = omega (arith, first_has entry entries id p)
+has_one (entry ∷ entries) (suc index) id p = omega (arith, has_one entries index id p, more_have entry entries id)
 
 has_two : (entries : List (Entry ℕ)) (index other id : ℕ) → other ≢ index → OfEntry (slice_get entries index) (Has id) → OfEntry (slice_get entries other) (Has id) → 1 < times id (ids entries)
 has_two [] index other id ne p q = absurd p
 has_two (entry ∷ entries) zero zero id ne p q = absurd (ne refl)
-has_two (entry ∷ entries) zero (suc other) id ne p q =
-    let one = first_has entry entries id p in
-    let some = has_one entries other id q in
-    omega (arith, one, some)
-has_two (entry ∷ entries) (suc index) zero id ne p q =
-    let one = first_has entry entries id q in
-    let some = has_one entries index id p in
-    omega (arith, one, some)
-has_two (entry ∷ entries) (suc index) (suc other) id ne p q =
-    let two = has_two entries index other id (λ e. ne (ap suc e)) p q in
-    let more = more_have entry entries id in
-    omega (arith, two, more)
+has_two (entry ∷ entries) zero (suc other) id ne p q = omega (arith, first_has entry entries id p, has_one entries other id q)
+has_two (entry ∷ entries) (suc index) zero id ne p q = omega (arith, first_has entry entries id q, has_one entries index id p)
+has_two (entry ∷ entries) (suc index) (suc other) id ne p q = omega (arith, has_two entries index other id (λ e. ne (ap suc e)) p q, more_have entry entries id)
 
 -- ---- what is said of a record keeps its ID
 
@@ -54,16 +39,12 @@ pub may_have : (image : List ℕ) (db : Db) (index attributes id slot now : ℕ)
 may_have image db index attributes id slot now a has records e deleted =
     let h = here image db.0 a has in
     let entry : Entry ℕ = a_record attributes id slot in
-    let there : slice_get h.one.database.entries index ≡ Some entry = entry_is image db index entry h e in
-    let own : OfEntry (slice_get h.one.database.entries index) (Has id) = subst (λ (x : Option (Entry ℕ)). OfEntry x (Has id)) (sym there) refl in
-    let some = has_one h.one.database.entries index id own in
-    let positive : id ≢ 0 = all-times (λ (x : ℕ). x ≢ 0) (unique_ids h.one.database) h.whole.ids.none_zero id some in
-    let once = distinct-times (unique_ids h.one.database) h.whole.ids.distinct id in
+    let own : OfEntry (slice_get h.one.database.entries index) (Has id) = subst (λ (x : Option (Entry ℕ)). OfEntry x (Has id)) (sym (entry_is image db index entry h e)) refl in
+    let positive : id ≢ 0 = all-times (λ (x : ℕ). x ≢ 0) (unique_ids h.one.database) h.whole.ids.none_zero id (has_one h.one.database.entries index id own) in
     let small = (fits image db false index entry a has records e).1 in
     let alone : HasOther (store_of image) db index id → ⊥ = λ other.
     (let same : OfEntry (slice_get h.one.database.entries other.0) (Has id) = subst (λ (x : Option StoredDatabase). OfEntry (slice_get (entries_of x) other.0) (Has id)) h.found other.2 in
-    let two = has_two h.one.database.entries index other.0 id other.1 own same in
-    omega (arith, two, once)) in
+    omega (arith, has_two h.one.database.entries index other.0 id other.1 own same, distinct-times (unique_ids h.one.database) h.whole.ids.distinct id)) in
     (records, omega (arith, positive), omega (arith, small), alone, λ none. deleted (sym (ap data_of_entry e) ∙ none))
 
 -- the same for any attributes, if it has data
@@ -74,45 +55,32 @@ live_may_have image db index attributes id slot now a has records e some =
 
 -- ---- what is said of a record with another ID
 
--- the ID that is given is a record's own, or the one in the number
-pub id_given : (number own : ℕ) → (id_set number own ≡ own) ⊎ ((id_set number own ≡ id_in number) × (0 < id_in number))
-id_given number own = elim (cases_eq (id_in number) 0) [
-  | inl none ↦ inl (cond-true (id_in number == 0) own (id_in number) (eq-eqb (id_in number) 0 none))
-  | inr some ↦ inr (cond-false (id_in number == 0) own (id_in number) (ne_eqb (id_in number) 0 some), omega (arith, some))
-]
-
 -- if an ID is in the number, it is given
-pub given_in : (number own : ℕ) → id_in number ≢ 0 → id_set number own ≡ id_in number
+given_in : (number own : ℕ) → id_in number ≢ 0 → id_set number own ≡ id_in number
 given_in number own some = cond-false (id_in number == 0) own (id_in number) (ne_eqb (id_in number) 0 some)
 
-pub may_have_id : (image : List ℕ) (db : Db) (index attributes id slot now number : ℕ) → Accepted image → IsSome (with_number (store_of image) db.0) → resources_under (store_of image) db ≡ false → entry_under (store_of image) db index ≡ Some (a_record attributes id slot)
-    → (slot ≡ 0 → is_deleted now ≡ true) → (id_set number id ≡ id) ⊎ (SomeHas (entries_in (store_of image) db) (HasId (id_set number id)) → ⊥) → CanHave (store_of image) db (resources_under (store_of image) db) index (infos.Record now (id_set number id))
-may_have_id image db index attributes id slot now number a has records e deleted which =
+-- the ID that is given is the record's own, or no record has it
+pub may_have_id : (image : List ℕ) (db : Db) (index attributes id slot now number given : ℕ) → Accepted image → IsSome (with_number (store_of image) db.0) → resources_under (store_of image) db ≡ false → entry_under (store_of image) db index ≡ Some (a_record attributes id slot)
+    → (slot ≡ 0 → is_deleted now ≡ true) → given ≡ id_set number id → (given ≡ id) ⊎ (SomeHas (entries_in (store_of image) db) (HasId given) → ⊥) → CanHave (store_of image) db (resources_under (store_of image) db) index (infos.Record now given)
+may_have_id image db index attributes id slot now number given a has records e deleted set which =
     let own = may_have image db index attributes id slot now a has records e deleted in
-    let as_own : id_set number id ≡ id → CanHave (store_of image) db (resources_under (store_of image) db) index (infos.Record now (id_set number id)) =
-    λ same. subst (λ (n : ℕ). CanHave (store_of image) db (resources_under (store_of image) db) index (infos.Record now n)) (sym same) own in
+    let kept : given ≡ id → CanHave (store_of image) db (resources_under (store_of image) db) index (infos.Record now given) = λ same. rw same own in
     elim which [
-      | inl same ↦ as_own same
-      | inr none ↦ elim (id_given number id) [
-        | inl same ↦ as_own same
-        | inr new ↦
-            let is = new.0 in
-            let some = new.1 in
-            (own.0, omega (arith, is, some), (let small : id_in number < 2 ^ 24 = mod-lt number (omega arith) in omega (arith, is, small)), (λ other. none (other.0, other.2)), own.4)
+      | inl same ↦ kept same
+      | inr none ↦ elim (cases_eq (id_in number) 0) [
+        | inl nothing ↦ kept (set ∙ cond-true (id_in number == 0) id (id_in number) (eq-eqb (id_in number) 0 nothing))
+        | inr some ↦
+            let is = set ∙ given_in number id some in
+            (own.0, omega (arith, is, some), omega (arith, is, mod-lt number (let positive : 0 < 2 ^ 24 = omega arith in positive)), (λ other. none (other.0, other.2)), own.4)
       ]
     ]
 
 -- no other record has the ID that is in the number
-pub no_other : (image : List ℕ) (db : Db) (index attributes id slot number : ℕ) → Accepted image → IsSome (with_number (store_of image) db.0) → resources_under (store_of image) db ≡ false → entry_under (store_of image) db index ≡ Some (a_record attributes id slot)
-    → (id_set number id ≡ id) ⊎ (SomeHas (entries_in (store_of image) db) (HasId (id_set number id)) → ⊥) → (id_in number ≢ 0) × HasOther (store_of image) db index (id_in number) → ⊥
-no_other image db index attributes id slot number a has records e which both =
-    let given = given_in number id both.0 in
-    elim which [
-      | inl same ↦
-          let own = may_have image db index attributes id slot attributes a has records e (λ none. no_data image db index attributes id slot a has e none) in
-          own.3 (subst (HasOther (store_of image) db index) (sym given ∙ same) both.1)
-      | inr none ↦ none (both.1.0, subst (λ (n : ℕ). OfEntry (entry_under (store_of image) db both.1.0) (HasId n)) (sym given) both.1.2)
-    ]
+pub no_other : (image : List ℕ) (db : Db) (index attributes id slot number given : ℕ) → Accepted image → IsSome (with_number (store_of image) db.0) → resources_under (store_of image) db ≡ false → entry_under (store_of image) db index ≡ Some (a_record attributes id slot)
+    → given ≡ id_set number id → (given ≡ id) ⊎ (SomeHas (entries_in (store_of image) db) (HasId given) → ⊥) → (id_in number ≢ 0) × HasOther (store_of image) db index (id_in number) → ⊥
+no_other image db index attributes id slot number given a has records e set which both =
+    let new = may_have_id image db index attributes id slot attributes number given a has records e (λ none. no_data image db index attributes id slot a has e none) set which in
+    new.3 (subst (HasOther (store_of image) db index) (sym (set ∙ given_in number id both.0)) both.1)
 
 -- ---- what it changes
 

@@ -12,9 +12,7 @@ none_changed change (entry ∷ entries) = refl
 
 pub all_changed : (change : Entry ℕ → Entry ℕ) (count : ℕ) (entries : List (Entry ℕ)) → length entries ≤ count → first_changed change count entries ≡ map change entries
 all_changed change count entries all =
-    ap (λ (xs : List (Entry ℕ)). map change xs ++ drop count entries) (take_all count entries all)
-    ∙ ap (λ (xs : List (Entry ℕ)). map change entries ++ xs) (drop_all count entries all)
-    ∙ append-nil (map change entries)
+    rw (take_all count entries all, drop_all count entries all) (append-nil (map change entries))
 
 -- the entries after them are as they were
 pub later_kept : (change : Entry ℕ → Entry ℕ) (count at : ℕ) (entries : List (Entry ℕ)) → count ≤ at → slice_get (first_changed change count entries) at ≡ slice_get entries at
@@ -29,9 +27,8 @@ pub next_changed : (change : Entry ℕ → Entry ℕ) (count : ℕ) (entries : L
 next_changed change count [] below = absurd (omega arith)
 next_changed change zero (entry ∷ entries) below = refl
 next_changed change (suc count) (entry ∷ entries) below =
-    behind (change entry) (first_changed change count entries) count change ∙ ap (λ (xs : List (Entry ℕ)). change entry ∷ xs) (next_changed change count entries (omega arith)) where
-      behind : (first : Entry ℕ) (xs : List (Entry ℕ)) (index : ℕ) (change : Entry ℕ → Entry ℕ) → replaced (first ∷ xs) (suc index) change ≡ first ∷ replaced xs index change
-      behind first xs index change = by (slice_get xs index) where
-        by : (x : Option (Entry ℕ)) → replaced_if (first ∷ xs) (suc index) change x ≡ first ∷ replaced_if xs index change x
-        by None = refl
-        by (Some entry) = refl
+    let rest : List (Entry ℕ) = first_changed change count entries in
+    behind (change entry) rest (slice_get rest count) ∙ ap (λ (xs : List (Entry ℕ)). change entry ∷ xs) (next_changed change count entries (omega arith)) where
+      behind : (first : Entry ℕ) (xs : List (Entry ℕ)) (x : Option (Entry ℕ)) → replaced_if (first ∷ xs) (suc count) change x ≡ first ∷ replaced_if xs count change x
+      behind first xs None = refl
+      behind first xs (Some entry) = refl

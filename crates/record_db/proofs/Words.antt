@@ -18,5 +18,6 @@ pub use Rattle.palm_store.proofs.TwoChanges.{itself, left_after, left_as, nothin
 pub use Rattle.palm_store.specs.EntryCalls.{LeavesChanged, OnlyWrites}
 pub use Rattle.palm_store.specs.Search.{IsFirst, NoneBehind, SomeHas}
 pub use Rattle.std.proofs.Common.{bit_and, bit_or, count_by}
+pub use Rattle.std.proofs.lemmas.Bool.{both_ways, iff_false}
 pub use Rattle.std.proofs.lemmas.List.{append_assoc}
 pub use Rattle.std.specs.Prelude.{IsSomeAnd, filter, is_some, max, min, not, ◌%◌, ◌&&◌, ◌||◌}

@@ -10,11 +10,10 @@ change_attributes-requires-clause-change c =
 
 pub returns-clause-does : goal.returns-clause-does
 returns-clause-does c =
-    let h = here c.args.store.now.bytes c.args.db.0 c.in_ok-opened.ensures.accepted c.in_ok-opened.ensures.known in
-    let none = c.in_ok-opened.ensures.passes in
-    let moved = category_moved c.args.store.now.bytes c.change_attributes.new.self.bytes c.args.db c.args.to c.args.from c.args.dirty h c.in_ok-opened.ensures.accepted (rw (← c.in_ok-opened.ensures.db) c.change_attributes.ensures.changed) in
-    let leaves = raised_after c.args.store.now.bytes c.change_attributes.new.self.bytes c.count_change.new.self.bytes c.args.db (with_entries (store_of c.args.store.now.bytes) c.args.db (map (moved_category c.args.to c.args.from c.args.dirty))) moved (rw (← c.in_ok-opened.ensures.db) c.count_change.ensures.counted) c.count_change.ensures.none_made in
-    let kept = writes_then c.args.store.now c.change_attributes.new.self c.count_change.new.self
-    c.change_attributes.ensures.kept c.count_change.ensures.kept in
-    changes c.args.store.now c.count_change.new.self (calls.Record (MoveCategory c.args.db c.args.to c.args.from c.args.dirty)) Done _ (λ slots. refl) c.in_ok-opened.ensures.accepted leaves
+    let opened = c.in_ok-opened.ensures in
+    let none = opened.passes in
+    let moved = category_moved c.args.to c.args.from c.args.dirty (here _ c.args.db.0 opened.accepted opened.known) opened.accepted (rw opened.db at c.change_attributes.ensures.changed) in
+    let leaves = raised_after _ _ _ c.args.db _ moved (rw opened.db at c.count_change.ensures.counted) c.count_change.ensures.none_made in
+    let kept = writes_then _ _ _ c.change_attributes.ensures.kept c.count_change.ensures.kept in
+    changes _ _ _ _ _ (λ slots. refl) opened.accepted leaves
     ((none.0, (none.1.0, (none.1.1.0, (c.in_ok-check_category.ensures.passes.0, (c.in_ok-check_category-2.ensures.passes.0, tt))))), (tt, leaves.same)) kept.loan tt kept.rest

@@ -8,7 +8,6 @@ returns-clause-does c =
     let found = c.in_ok-live.ensures in
     let passes = found.passes in
     let given = c.in_ok-check_given.ensures.could in
-    let leaves = data_swapped c.args.store.now.bytes c.entry_swap.new.self.bytes c.args.db c.args.index c.in_ok-live.live.item.0.attributes c.in_ok-live.live.item.0.id c.in_ok-live.live.item.1.0 c.marked.result c.args.name.0 c.args.owner (λ (attributes : ℕ). bit_or attributes dirty_bit)
-    found.accepted found.found.known found.is c.marked.ensures (rw (← c.in_ok-live.ensures.found.db) c.entry_swap.ensures.swapped) in
-    changes c.args.store.now c.entry_swap.new.self (calls.Record (AttachReplacing c.args.db c.args.index c.args.name c.args.owner)) (Named c.in_ok-live.live.item.1) _ (λ slots. refl) found.accepted leaves
+    let leaves = data_swapped _ _ _ _ _ _ _ _ _ _ (λ (attributes : ℕ). bit_or attributes dirty_bit) found.accepted found.found.known found.is c.marked.ensures (rw found.found.db at c.entry_swap.ensures.swapped) in
+    changes _ _ _ _ _ (λ slots. refl) found.accepted leaves
     ((passes.0, (passes.1.0, (passes.1.1.0, (passes.1.1.1.0, (passes.1.1.1.1.0, (given.0, (given.1.0, (given.1.1.0, (c.in_ok-check_owner.ensures.ok, tt))))))))), (sym (ap data_of_entry found.is), leaves.same)) c.entry_swap.ensures.kept.loan tt c.entry_swap.ensures.kept.rest
