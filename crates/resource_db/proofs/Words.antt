@@ -13,4 +13,5 @@ pub use Rattle.palm_store.specs.Checks.{IsLockedChunk, opening_checks}
 pub use Rattle.palm_store.specs.EntryCalls.{LeavesAttached, LeavesChanged}
 pub use Rattle.palm_store.specs.Replies.{made_reply, number_or_refused}
 pub use Rattle.std.proofs.Common.{cond}
+pub use Rattle.std.proofs.lemmas.Bool.{iff_false}
 pub use Rattle.std.specs.Prelude.{is_some, take}

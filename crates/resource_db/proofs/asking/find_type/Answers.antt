@@ -1,10 +1,7 @@
-use Rattle.resource_db.proofs.Words.{ℕ, Result, sym, subst, DoesInStore, FindType, Refusal, number_or_refused}
-use Rattle.heap_model.specs.declared.call.Call.TheVariants as calls
 use Rattle.resource_db.proofs.Types.{found_type}
 use Rattle.resource_db.proofs.asking.find_type.Goals as goal
 
 pub returns : goal.returns
 returns c =
     let found = c.in_ok-resources.ensures in
-    subst (λ (result : Result ℕ Refusal). DoesInStore c.args.store.now (calls.Resource (FindType c.args.db c.args.kind c.args.nth)) (number_or_refused result) c.args.store.now) (sym c.ok_or.ensures.value)
-    (found_type c.args.store.now c.args.db c.args.kind c.args.nth c.in_ok-resources.resources c.nth_of_type.result found.accepted found.is found.passes c.nth_of_type.ensures.is c.nth_of_type.ensures.none)
+    rw c.ok_or.ensures.value (found_type c.args.store.now c.args.db c.args.kind c.args.nth c.in_ok-resources.resources c.nth_of_type.result found.accepted found.is found.passes c.nth_of_type.ensures.is c.nth_of_type.ensures.none)

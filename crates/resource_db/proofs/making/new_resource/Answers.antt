@@ -1,14 +1,11 @@
 -- A refusal of the entry is one of the call, which leaves the store as it was.
-use Rattle.resource_db.proofs.Words.{refl, subst, inr, FirstBrings, store_of, New, Refused, Db, Refusal, changes, handed_on, checks_of_making, made_reply}
-use Rattle.heap_model.specs.declared.call.Call.TheVariants as calls
+use Rattle.resource_db.proofs.Words.{refl, inr, store_of, Refused, changes, handed_on, made_reply}
 use Rattle.resource_db.proofs.making.new_resource.Goals as goal
 
 pub returns-in_err-name-clause-does : goal.returns-in_err-name-clause-does
 returns-in_err-name-clause-does c =
     let none = c.in_ok-opened.ensures.passes in
     let left = c.in_err-name.ensures in
-    let refusal : Refusal = c.in_err-name.field-0.0 in
-    let brings = subst (λ (db : Db). FirstBrings (checks_of_making c.args.store.now.bytes db c.args.size) refusal) c.in_ok-opened.ensures.db left.why in
-    handed_on made_reply (calls.Resource (New c.args.db c.args.kind c.args.id c.args.size)) c.from_residual-in_err-name.result (let e = c.from_residual-in_err-name.ensures in (e.0, e.1))
-    (changes c.args.store.now c.entry_new.new.self (calls.Resource (New c.args.db c.args.kind c.args.id c.args.size)) (Refused refusal) (store_of c.args.store.now.bytes) (λ slots. refl) c.in_ok-opened.ensures.accepted left.refused
-    (inr (none.0, inr (none.1.0, inr (none.1.1.0, brings))), left.as_before) left.kept.loan tt left.kept.rest)
+    let e = c.from_residual-in_err-name.ensures in
+    handed_on made_reply _ c.from_residual-in_err-name.result (e.0, e.1) (changes _ _ _ (Refused c.in_err-name.field-0.0) (store_of c.args.store.now.bytes) (λ slots. refl) c.in_ok-opened.ensures.accepted left.refused
+    (inr (none.0, inr (none.1.0, inr (none.1.1.0, rw c.in_ok-opened.ensures.db at left.why))), left.as_before) left.kept.loan tt left.kept.rest)

@@ -6,16 +6,12 @@ use Rattle.resource_db.proofs.search.nth_of_type.Goals.{then-resource-kind+else-
 
 pub loop-index-preserved : goal.loop-index-preserved
 loop-index-preserved c =
-    let so_far = c.loop-index.invariant.0 in
-    let most = c.loop-index.invariant.1 in
+    let was = c.loop-index.invariant in
     elim c.if-resource-kind.branch [
       | then-resource-kind+else-passed-nth w ↦
           let more = counted_more (has_type c.args.kind) c.args.resources.now.entries c.loop-index.index (resource_of c.resource.result) c.resource.ensures (eq-eqb c.resource.result.kind c.args.kind w.if-resource-kind.true) in
-          let is = w.passed-is in
-          let apart = w.if-passed-nth.false in
-          (is ∙ ap (λ (n : ℕ). n + 1) so_far ∙ sym more, omega (arith, is, most, apart))
+          (w.passed-is ∙ ap (λ (n : ℕ). n + 1) was.0 ∙ sym more, omega (arith, w.passed-is, was.1, w.if-passed-nth.false))
       | else-resource-kind w ↦
           let same = counted_same (has_type c.args.kind) c.args.resources.now.entries c.loop-index.index (resource_of c.resource.result) c.resource.ensures (ne_eqb c.resource.result.kind c.args.kind w.if-resource-kind.false) in
-          let is = w.passed-is in
-          (is ∙ so_far ∙ sym same, omega (arith, is, most))
+          (w.passed-is ∙ was.0 ∙ sym same, omega (arith, w.passed-is, was.1))
     ]
